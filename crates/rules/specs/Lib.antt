@@ -1,0 +1,15 @@
+pub mod Ranges
+pub mod Channels
+pub mod Matrices
+pub mod Weights
+pub mod Sample
+pub mod Blocks
+pub mod Storage
+pub mod Planes
+pub mod Refusals
+pub mod Settle
+pub mod Fractions
+pub mod Frames
+pub mod Convert
+pub mod Check
+pub mod Examples

@@ -1,0 +1,215 @@
+// The types that document 01's rules speak of. The enumerations carry the names and numbers of yuvutils-rs.
+ghost use mathlib.Core.Path.{_≡_};
+ghost use Rattle.rules.specs.Refusals.{numberOf};
+
+pub enum YuvRange {
+    Limited = 0,
+    Full = 1,
+}
+
+// One of five names, or a custom pair: kr, then kb.
+pub enum YuvStandardMatrix {
+    Bt601,
+    Bt709,
+    Bt2020,
+    Smpte240,
+    Bt470_6,
+    Custom(f32, f32),
+}
+
+// Kr and Kb as 32-bit floats.
+pub struct YuvBias {
+    pub kr: f32,
+    pub kb: f32,
+}
+
+// Kr and Kb of a row of the table of matrices, in ten-thousandths.
+pub struct Named {
+    pub kr: u32,
+    pub kb: u32,
+}
+
+// What a matrix is given by: a row of the table, or a pair of floats.
+pub enum Matrix {
+    Tabled(Named),
+    Own(YuvBias),
+}
+
+pub enum YuvChromaSubsampling {
+    Yuv420 = 0,
+    Yuv422 = 1,
+    Yuv444 = 2,
+}
+
+pub enum YuvNVOrder {
+    UV = 0,
+    VU = 1,
+}
+
+pub enum YuvBytesPacking {
+    MostSignificantBytes = 0,
+    LeastSignificantBytes = 1,
+}
+
+pub enum YuvEndianness {
+    BigEndian = 0,
+    LittleEndian = 1,
+}
+
+pub enum YuvSourceChannels {
+    Rgb = 0,
+    Rgba = 1,
+    Bgra = 2,
+    Bgr = 3,
+}
+
+pub struct Settings {
+    pub depth: u32,
+    pub precision: u32,
+    pub matrix: YuvStandardMatrix,
+    pub range: YuvRange,
+    pub subsampling: YuvChromaSubsampling,
+    pub order: YuvNVOrder,
+    pub packing: YuvBytesPacking,
+    pub endianness: YuvEndianness,
+    pub channels: YuvSourceChannels,
+}
+
+impl Settings {
+    pub const GREATEST_DEPTH: u32 = 16;
+
+    pub const GREATEST_PRECISION: u32 = 13;
+
+    pub fn new(
+        depth: u32,
+        precision: u32,
+        matrix: YuvStandardMatrix,
+        range: YuvRange,
+        subsampling: YuvChromaSubsampling,
+        order: YuvNVOrder,
+        packing: YuvBytesPacking,
+        endianness: YuvEndianness,
+        channels: YuvSourceChannels,
+    ) -> Settings
+        ensures { λ r. ⌜ r ≡ record { depth = depth; precision = precision; matrix = matrix; range = range; subsampling = subsampling; order = order; packing = packing; endianness = endianness; channels = channels } ⌝ }
+    {
+        Settings {
+            depth,
+            precision,
+            matrix,
+            range,
+            subsampling,
+            order,
+            packing,
+            endianness,
+            channels,
+        }
+    }
+}
+
+// A frame's size in pixels, and the strides of its three buffers in u16 elements.
+pub struct Frame {
+    pub width: usize,
+    pub height: usize,
+    pub source_stride: usize,
+    pub luma_stride: usize,
+    pub chroma_stride: usize,
+}
+
+pub struct Pixel {
+    pub red: u16,
+    pub green: u16,
+    pub blue: u16,
+}
+
+// Three weights, for red, green and blue.
+pub struct Triple {
+    pub red: i32,
+    pub green: i32,
+    pub blue: i32,
+}
+
+// The nine weights in 32-bit floats.
+pub struct CbCrForwardTransform {
+    pub yr: f32,
+    pub yg: f32,
+    pub yb: f32,
+    pub cb_r: f32,
+    pub cb_g: f32,
+    pub cb_b: f32,
+    pub cr_r: f32,
+    pub cr_g: f32,
+    pub cr_b: f32,
+}
+
+// The nine weights times 2^P, as whole numbers.
+pub struct Weights {
+    pub yr: i32,
+    pub yg: i32,
+    pub yb: i32,
+    pub cb_r: i32,
+    pub cb_g: i32,
+    pub cb_b: i32,
+    pub cr_r: i32,
+    pub cr_g: i32,
+    pub cr_b: i32,
+}
+
+pub enum Refusal {
+    Depth,
+    Precision,
+    CustomPair,
+    WeightOff,
+    CodeOutside,
+    CustomUnchecked,
+    Size,
+    Stride,
+    Length,
+    TooLarge,
+}
+
+impl Refusal {
+    // Document 01's number.
+    pub fn number(self) -> u32
+        ensures { λ r. ⌜ r ≡ numberOf self ⌝ }
+    {
+        match self {
+            Refusal::Depth => 1,
+            Refusal::Precision => 2,
+            Refusal::CustomPair => 3,
+            Refusal::WeightOff => 4,
+            Refusal::CodeOutside => 5,
+            Refusal::CustomUnchecked => 6,
+            Refusal::Size => 7,
+            Refusal::Stride => 8,
+            Refusal::Length => 9,
+            Refusal::TooLarge => 10,
+        }
+    }
+}
+
+// What settle answers.
+pub enum Settled {
+    Weighed(Weights),
+    Refused(Refusal),
+}
+
+// What convert answers.
+pub enum Converted {
+    Done,
+    Refused(Refusal),
+}
+
+// Where a sample stands: plane 0 is luma and 1 chroma; rows and elements count from 0.
+pub struct Place {
+    pub plane: usize,
+    pub row: usize,
+    pub element: usize,
+}
+
+// What check answers.
+pub enum Checked {
+    Accepted,
+    Wrong(Place),
+    Refused(Refusal),
+}
