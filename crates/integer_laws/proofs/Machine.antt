@@ -55,6 +55,24 @@ not-neg (negsuc n) h = absurd (true≢false h)
 pub size-le : (w : ℤ) → SFits w32 w → natAbs w ≤ 2147483648
 size-le w f = natAbs-le w (f .sfits)
 
+-- ---- minus a number of 31 bits
+zero-less : (n : ℕ) → pos 0 -ℤ pos n ≡ negℤ (pos n)
+zero-less n = +ℤ-idl (negℤ (pos n))
+
+mag-neg : (n : ℕ) → n < 2147483648 → mag (negℤ (pos n)) < 2147483648
+mag-neg zero h = h
+mag-neg (suc n) h = omega arith
+
+module _ (n : ℕ) (h : n < 2147483648) where
+  minus-is : pos 0 -ℤ toZ w32 n ≡ negℤ (pos n)
+  minus-is = ap (λ (z : ℤ). pos 0 -ℤ z) (toZ-pos w32 n h) ∙ zero-less n
+
+  pub minus-fits32 : SFits w32 (pos 0 -ℤ toZ w32 n)
+  minus-fits32 = record { sfits = subst (λ (z : ℤ). mag z < 2147483648) (sym minus-is) (mag-neg n h) }
+
+  pub minus-back32 : toZ w32 (ofZ w32 (pos 0 -ℤ toZ w32 n)) ≡ negℤ (pos n)
+  minus-back32 = toZ-ofZ w32 (pos 0 -ℤ toZ w32 n) minus-fits32 ∙ minus-is
+
 -- ---- a widened 32-bit number times a widened 16-bit one
 module _ (a : ℤ) (x : ℕ) (ha : SFits w32 a) (hx : Fits w16 x) where
   pub times : toZ w64 (ofZ w64 (toZ w32 (ofZ w32 a))) *ℤ toZ w64 x ≡ a *ℤ pos x

@@ -35,15 +35,18 @@ blueAt Rgba = 2
 blueAt Bgra = 0
 blueAt Bgr = 0
 
--- "alpha, where there is one, at 3"
 abbrev pub hasAlpha : YuvSourceChannels → Bool
 hasAlpha Rgb = false
 hasAlpha Rgba = true
 hasAlpha Bgra = true
 hasAlpha Bgr = false
 
-abbrev pub alphaAt : ℕ
-alphaAt = 3
+-- "alpha, where there is one, at 3"; where there is none the Rust says 0, and nothing reads it
+abbrev pub alphaAt : YuvSourceChannels → ℕ
+alphaAt Rgb = 0
+alphaAt Rgba = 3
+alphaAt Bgra = 3
+alphaAt Bgr = 0
 
 -- "UV puts U first; VU puts V first": the place of U in a chroma pair, and of V
 abbrev pub uAt : YuvNVOrder → ℕ

@@ -57,6 +57,25 @@ weightOff s (Tabled k) w = not (allNear (s .precision) k (most (s .depth)) (rang
 abbrev pub colour : ℕ → ℕ → ℕ → Pixel
 colour r g b = record { red = r; green = g; blue = b }
 
+abbrev pub black : Pixel
+black = colour 0 0 0
+
+abbrev pub white : ℕ → Pixel
+white m = colour m m m
+
+abbrev pub blue : ℕ → Pixel
+blue m = colour 0 0 m
+
+abbrev pub yellow : ℕ → Pixel
+yellow m = colour m m 0
+
+abbrev pub red : ℕ → Pixel
+red m = colour m 0 0
+
+abbrev pub cyan : ℕ → Pixel
+cyan m = colour 0 m m
+
+-- a code is outside 0 to m
 unfoldable pub codeOff : ℕ → ℕ → ℕ → Triple → Pixel → Bool
 codeOff precision m bias w p = let c = signedCode precision bias w p in not (leZ (pos 0) c && leZ c (pos m))
 
@@ -65,11 +84,11 @@ someCodeOff s w =
     let p = s .precision in
     let m = most (s .depth) in
     let uv = biasUV (s .depth) in
-    codeOff p m (biasY (s .range) (s .depth)) (lumaRow w) (colour m m m)
-    || (codeOff p m uv (cbRow w) (colour 0 0 m)
-    || (codeOff p m uv (cbRow w) (colour m m 0)
-    || (codeOff p m uv (crRow w) (colour m 0 0)
-    || codeOff p m uv (crRow w) (colour 0 m m))))
+    codeOff p m (biasY (s .range) (s .depth)) (lumaRow w) (white m)
+    || (codeOff p m uv (cbRow w) (blue m)
+    || (codeOff p m uv (cbRow w) (yellow m)
+    || (codeOff p m uv (crRow w) (red m)
+    || codeOff p m uv (crRow w) (cyan m))))
 
 -- ---- the table, and the answer
 

@@ -1,0 +1,4 @@
+pub mod Refusals
+pub mod Depths
+pub mod Order
+pub mod Extremes

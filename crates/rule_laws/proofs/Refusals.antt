@@ -1,0 +1,51 @@
+-- The first line of a table that applies, read line by line; and the test of two bounds. Assumes nothing.
+use mathlib.Core.Path.{_≡_, refl, ap}
+use mathlib.Core.Bool.{Bool, true, false, not, _&&_, true≢false}
+use mathlib.Core.List.{List, [], _∷_}
+use Prim.Native.Nat.{ℕ, _≤_, _<_}
+use native.Mathlib.Omega.{arith}
+use lib.Dec.{leb}
+use borrow.Author.Tests.{le-leb, lt-leb, leb-true}
+use Rattle.rules.specs.declared.Refusal.{Refusal}
+use Rattle.rules.specs.Refusals.{outside, Line, Verdict, passes, refuses, pick, first}
+
+-- ---- a table's lines
+pub end : first [] ≡ passes
+unfolding first
+end = refl
+
+module _ (l : Line) (ls : List Line) where
+  pub stop : l .applies ≡ true → first (l ∷ ls) ≡ refuses (l .refusal)
+  unfolding first
+  stop h = ap (λ (b : Bool). pick (l .refusal) b (first ls)) h
+
+  pub skip : l .applies ≡ false → first (l ∷ ls) ≡ first ls
+  unfolding first
+  skip h = ap (λ (b : Bool). pick (l .refusal) b (first ls)) h
+
+  pub passed : first (l ∷ ls) ≡ passes → (l .applies ≡ false) × (first ls ≡ passes)
+  unfolding first
+  passed h = go (l .applies) h
+    where
+      go : (b : Bool) → pick (l .refusal) b (first ls) ≡ passes → (b ≡ false) × (first ls ≡ passes)
+      go true e = absurd (let z : _≡_ {A = ℕ} 0 1 = cc in omega arith)
+      go false e = (refl, e)
+
+-- ---- a number below, above and within two bounds
+module _ (low high n : ℕ) where
+  pub below : n < low → outside low high n ≡ true
+  below h = λ i. not (lt-leb low n h i && leb n high)
+
+  pub above : low ≤ n → high < n → outside low high n ≡ true
+  above h k = λ i. not (le-leb low n h i && lt-leb n high k i)
+
+  pub inside : low ≤ n → n ≤ high → outside low high n ≡ false
+  inside h k = λ i. not (le-leb low n h i && le-leb n high k i)
+
+  pub bounds : outside low high n ≡ false → (low ≤ n) × (n ≤ high)
+  bounds h = go (leb low n) (leb n high) (leb-true low n) (leb-true n high) h
+    where
+      go : (a b : Bool) → (a ≡ true → low ≤ n) → (b ≡ true → n ≤ high) → not (a && b) ≡ false → (low ≤ n) × (n ≤ high)
+      go true true f g h = (f refl, g refl)
+      go true false f g h = absurd (true≢false h)
+      go false b f g h = absurd (true≢false h)

@@ -1,0 +1,5 @@
+pub mod Sums
+pub mod Near
+pub mod Tests
+pub mod Verdicts
+pub mod Weighed
