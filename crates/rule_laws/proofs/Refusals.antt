@@ -1,13 +1,13 @@
 -- The first line of a table that applies, read line by line; and the test of two bounds. Assumes nothing.
-use mathlib.Core.Path.{_≡_, refl, ap}
+use mathlib.Core.Path.{_≡_, refl, sym, ap, _∙_}
 use mathlib.Core.Bool.{Bool, true, false, not, _&&_, true≢false}
 use mathlib.Core.List.{List, [], _∷_}
 use Prim.Native.Nat.{ℕ, _≤_, _<_}
 use native.Mathlib.Omega.{arith}
-use lib.Dec.{leb}
-use borrow.Author.Tests.{le-leb, lt-leb, leb-true}
+use lib.Dec.{leb, ltb, eqb}
+use borrow.Author.Tests.{le-leb, lt-leb, le-ltb, lt-ltb, leb-true, leb-false, eq-eqb}
 use Rattle.rules.specs.declared.Refusal.{Refusal}
-use Rattle.rules.specs.Refusals.{outside, Line, Verdict, passes, refuses, pick, first}
+use Rattle.rules.specs.Refusals.{numberOf, outside, Line, Verdict, passes, refuses, pick, first}
 
 -- ---- a table's lines
 pub end : first [] ≡ passes
@@ -31,13 +31,33 @@ module _ (l : Line) (ls : List Line) where
       go true e = absurd (let z : _≡_ {A = ℕ} 0 1 = cc in omega arith)
       go false e = (refl, e)
 
--- ---- a number below, above and within two bounds
+  -- a refusal of another number comes from the lines after this one
+  pub reached : (r : Refusal) → eqb (numberOf (l .refusal)) (numberOf r) ≡ false → first (l ∷ ls) ≡ refuses r → (l .applies ≡ false) × (first ls ≡ refuses r)
+  unfolding first
+  reached r n h = go (l .applies) h
+    where
+      go : (b : Bool) → pick (l .refusal) b (first ls) ≡ refuses r → (b ≡ false) × (first ls ≡ refuses r)
+      go true e = let q : l .refusal ≡ r = cc in absurd (true≢false (sym (eq-eqb (numberOf (l .refusal)) (numberOf r) (ap numberOf q)) ∙ n))
+      go false e = (refl, e)
+
+-- nothing comes from no lines
+pub ended : (r : Refusal) → first [] ≡ refuses r → ⊥
+ended r e = let h : passes ≡ refuses r = sym end ∙ e in let z : _≡_ {A = ℕ} 0 1 = cc in omega arith
+
+-- ---- a number below a lower bound, from it on, and within two bounds
 module _ (low high n : ℕ) where
   pub below : n < low → outside low high n ≡ true
   below h = λ i. not (lt-leb low n h i && leb n high)
 
-  pub above : low ≤ n → high < n → outside low high n ≡ true
-  above h k = λ i. not (le-leb low n h i && lt-leb n high k i)
+  pub from : low ≤ n → ltb high n ≡ outside low high n
+  from h = over ∙ sym (λ i. not (le-leb low n h i && leb n high))
+    where
+      over : ltb high n ≡ not (leb n high)
+      over = go (leb n high) (leb-true n high) (leb-false n high)
+        where
+          go : (b : Bool) → (b ≡ true → n ≤ high) → (b ≡ false → high < n) → ltb high n ≡ not b
+          go true f g = le-ltb high n (f refl)
+          go false f g = lt-ltb high n (g refl)
 
   pub inside : low ≤ n → n ≤ high → outside low high n ≡ false
   inside h k = λ i. not (le-leb low n h i && le-leb n high k i)

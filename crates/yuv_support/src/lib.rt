@@ -1,36 +1,39 @@
 // Settings settled: their ranges, places, matrix and weights, and the first five refusals.
 ghost use mathlib.Core.Path.{_≡_};
+ghost use Rattle.rules.specs.Refusals.{outside};
 ghost use Rattle.rules.specs.Settle.{settle};
 ghost use Rattle.yuv_support.specs.Usable.{Promised};
 
 pub mod channels;
 pub mod codes;
 pub mod matrices;
-pub mod nearness;
+mod nearness;
 pub mod ranges;
-pub mod weights;
+mod weights;
 
 use rules::Refusal;
 use rules::Settings;
 use rules::Settled;
+
+// n is not low to high.
+fn outside(low: u32, high: u32, n: u32) -> bool
+    ensures { λ r. ⌜ r ≡ outside low high n ⌝ }
+{
+    if n < low {
+        return true;
+    }
+    high < n
+}
 
 // The nine weights of the settings, or the first of refusals 1 to 5 that applies.
 pub fn settle(s: Settings) -> Settled
     ensures exact { λ r. ⌜ r ≡ settle s ⌝ }
     ensures usable { λ r. ⌜ Promised s r ⌝ }
 {
-    let depth = s.depth;
-    let precision = s.precision;
-    if depth < 10 {
+    if outside(10, Settings::GREATEST_DEPTH, s.depth) {
         return Settled::Refused(Refusal::Depth);
     }
-    if depth > Settings::GREATEST_DEPTH {
-        return Settled::Refused(Refusal::Depth);
-    }
-    if precision < 1 {
-        return Settled::Refused(Refusal::Precision);
-    }
-    if precision > Settings::GREATEST_PRECISION {
+    if outside(1, Settings::GREATEST_PRECISION, s.precision) {
         return Settled::Refused(Refusal::Precision);
     }
     let standard = s.matrix;
