@@ -1,9 +1,8 @@
-// The table of matrices, and the test of a custom pair.
+// The table of matrices, and the pair of floats that a matrix uses.
 ghost use mathlib.Core.Path.{_≡_};
 ghost use Rattle.rules.specs.Matrices.{matrixOf};
 ghost use Prim.Native.Nat.{ℕ, _≤_};
 ghost use Rattle.rules.specs.Weights.{nearest, pairOf};
-ghost use Rattle.rules.specs.Settle.{positivePair, pairOff};
 use rules::Matrix;
 use rules::Named;
 use rules::YuvBias;
@@ -42,30 +41,5 @@ pub fn get_kr_kb(matrix: YuvStandardMatrix) -> YuvBias
             kb: ten_thousandths(k.kb),
         },
         Matrix::Own(own) => own,
-    }
-}
-
-// kr > 0, kb > 0 and kg > 0 in f32; a NaN fails.
-pub fn positive_pair(k: YuvBias) -> bool
-    ensures { λ r. ⌜ r ≡ positivePair k ⌝ }
-{
-    let kr = k.kr;
-    let kb = k.kb;
-    let kg = 1.0f32 - kr - kb;
-    if kr > 0.0f32 {
-        if kb > 0.0f32 {
-            return kg > 0.0f32;
-        }
-    }
-    false
-}
-
-// Refusal 3.
-pub fn pair_off(matrix: Matrix) -> bool
-    ensures { λ r. ⌜ r ≡ pairOff matrix ⌝ }
-{
-    match matrix {
-        Matrix::Tabled(_) => false,
-        Matrix::Own(k) => !positive_pair(k),
     }
 }

@@ -6,7 +6,7 @@ ghost use lib.Dec.{T};
 ghost use lib.IntN.{pos};
 ghost use lib.Ieee.{binary32, fits, lt};
 ghost use Rattle.rules.specs.Weights.{nought, pair, forward, rounded, integers, weightsOf};
-ghost use Rattle.yuv_support.specs.Usable.{Held};
+ghost use Rattle.yuv_support.specs.Held.{Held};
 use crate::matrices;
 use crate::ranges;
 use rules::CbCrForwardTransform;

@@ -1,0 +1,2 @@
+// One sample: the code of a pixel.
+pub mod code;

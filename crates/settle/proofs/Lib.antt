@@ -1,0 +1,4 @@
+pub mod Near
+pub mod Tests
+pub mod Verdicts
+pub mod Weighed

@@ -1,5 +1,0 @@
-pub mod Sums
-pub mod Near
-pub mod Tests
-pub mod Verdicts
-pub mod Weighed
