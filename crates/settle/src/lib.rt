@@ -7,6 +7,7 @@ ghost use Rattle.settle.specs.Usable.{Promised};
 mod codes;
 mod nearness;
 mod pairs;
+pub mod sizes;
 
 use rules::Refusal;
 use rules::Settings;

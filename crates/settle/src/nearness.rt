@@ -1,10 +1,10 @@
 // Refusal 4: a weight too far from its exact fraction.
 ghost use mathlib.Core.Path.{_≡_};
-ghost use Prim.Native.Nat.{ℕ, _+_, _-_, _≤_, _<_};
-ghost use lib.IntN.{natAbs};
+ghost use Prim.Native.Nat.{_+_, _≤_, _<_};
 ghost use Rattle.rules.specs.Weights.{signed};
 ghost use Rattle.rules.specs.Matrices.{matrixOf};
 ghost use Rattle.rules.specs.Settle.{near, rowNear, allNear, weightOff};
+use crate::sizes;
 use rules::Matrix;
 use rules::Named;
 use rules::Settings;
@@ -12,20 +12,6 @@ use rules::Triple;
 use rules::Weights;
 use samples::code;
 use yuv_support::ranges;
-
-// |w|
-pub fn size_of_weight(w: i32) -> u64
-    ensures { λ r. ⌜ r ≡ natAbs w ⌝ }
-{
-    let z = w as i64;
-    if z < 0 { (0 - z) as u64 } else { z as u64 }
-}
-
-pub fn apart(a: u64, b: u64) -> u64
-    ensures { λ r. ⌜ r ≡ (a - b) + (b - a) ⌝ }
-{
-    if a <= b { b - a } else { a - b }
-}
 
 // A fraction's numerator: its size, and whether it is negative.
 pub struct Part {
@@ -42,18 +28,18 @@ pub fn weight_near(precision: u32, d: u32, w: i32, a: Part) -> bool
     let minus = a.minus;
     let t = 51 * (d as u64) / 100;
     let y = (size as u64) << precision;
-    let n = size_of_weight(w);
+    let n = sizes::size_of_weight(w);
     let x = n * (d as u64);
     if w < 0 {
         if minus {
-            return apart(x, y) <= t;
+            return sizes::apart(x, y) <= t;
         }
         return x + y <= t;
     }
     if minus {
         return x + y <= t;
     }
-    apart(x, y) <= t
+    sizes::apart(x, y) <= t
 }
 
 // A row of three weights over one denominator.

@@ -1,4 +1,4 @@
--- `settle::nearness::size_of_weight` meets its contract. Assumes nothing.
+-- `settle::sizes::size_of_weight` meets its contract. Assumes nothing.
 use mathlib.Core.Path.{_≡_, sym, ap, _∙_, subst}
 use mathlib.Core.Bool.{Bool, true, false}
 use native.Mathlib.Omega.{arith}
@@ -9,8 +9,8 @@ use mir.Syntax.{w32, w64}
 use mir.Val.{SFits, Fits, toZ, ofZ}
 use Rattle.integer_laws.proofs.Differences.{abs-neg}
 use Rattle.integer_laws.proofs.Machine.{widened, back32, back, negated, zero-less-back, minus-back, neg-nonNeg, not-neg, size-le}
-use Rattle.settle.proofs.nearness.size_of_weight.Statement.{statement}
-use Rattle.settle.proofs.nearness.size_of_weight.Tie as tie
+use Rattle.settle.proofs.sizes.size_of_weight.Statement.{statement}
+use Rattle.settle.proofs.sizes.size_of_weight.Tie as tie
 
 -- the flag of the test, at w itself
 flag : (c : tie.Start) (t : Bool) → ltZ (toZ w64 (ofZ w64 (toZ w32 (ofZ w32 (c .args .w))))) (pos 0) ≡ t → ltZ (c .args .w) (pos 0) ≡ t
