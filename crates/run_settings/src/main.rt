@@ -12,7 +12,6 @@ use rules::YuvSourceChannels;
 use rules::YuvStandardMatrix;
 use settle::sizes;
 
-mod floats;
 mod pairs;
 
 fn put(text: &[u8]) {
@@ -127,6 +126,42 @@ fn settle_limits(matrix: YuvStandardMatrix) {
     settle_limits_at(matrix, 4294967295);
 }
 
+// x times n twos, or n halves.
+fn scaled(x: f32, by: f32, n: u32) -> f32 {
+    let mut y = x;
+    let mut i = 0;
+    while i < n {
+        y = y * by;
+        i += 1;
+    }
+    y
+}
+
+// The float without its sign.
+fn size_of(exponent: u32, fraction: u32) -> f32 {
+    if exponent == 255 {
+        if fraction == 0 {
+            return 1.0f32 / 0.0f32;
+        }
+        return 0.0f32 / 0.0f32;
+    }
+    if exponent == 0 {
+        return scaled(std::num::nearest_u32_to_f32(fraction), 0.5f32, 149);
+    }
+    let x = std::num::nearest_u32_to_f32(std::num::wrapping_add_u32(fraction, 8388608));
+    if exponent < 150 {
+        scaled(x, 0.5f32, 150 - exponent)
+    } else {
+        scaled(x, 2.0f32, exponent - 150)
+    }
+}
+
+// The float of these bits, by exact steps.
+fn float_of(bits: u32) -> f32 {
+    let size = size_of(bits / 8388608 % 256, bits % 8388608);
+    if bits < 2147483648 { size } else { -size }
+}
+
 fn put_pair(kr: u32, kb: u32) {
     put(b"Custom ");
     io::print_hex(STDOUT_FILENO, kr as u64, 8);
@@ -136,7 +171,7 @@ fn put_pair(kr: u32, kb: u32) {
 
 // A custom pair, given by the bits of its two floats.
 fn settle_pair(kr: u32, kb: u32) {
-    let matrix = YuvStandardMatrix::Custom(floats::float_of(kr), floats::float_of(kb));
+    let matrix = YuvStandardMatrix::Custom(float_of(kr), float_of(kb));
     put_pair(kr, kb);
     put_settled(matrix, YuvRange::Full, 10, 13);
     put_pair(kr, kb);

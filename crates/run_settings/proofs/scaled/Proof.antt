@@ -1,8 +1,8 @@
--- `run_settings::floats::scaled` is safe and ends. Assumes nothing.
+-- `run_settings::scaled` is safe and ends. Assumes nothing.
 use Prim.Native.Nat.{_≤_, _-_}
 use native.Mathlib.Omega.{arith}
-use Rattle.run_settings.proofs.floats.scaled.Statement.{statement}
-use Rattle.run_settings.proofs.floats.scaled.Tie as tie
+use Rattle.run_settings.proofs.scaled.Statement.{statement}
+use Rattle.run_settings.proofs.scaled.Tie as tie
 
 abbrev Inv-loop : tie.InvT-loop
 Inv-loop x by n y₀ i₀ y i = i ≤ n
