@@ -6,7 +6,7 @@ use native.Mathlib.Nat.{div-add-mod', mod-lt, zero-add}
 use native.Mathlib.Omega.{arith}
 use lib.Dec.{T, ltb, ltb→lt, nltb→le}
 use lib.IntN.{ℤ, pos, negsuc, _+ℤ_, _-ℤ_, _*ℤ_, negℤ, natAbs, subℕ}
-use lib.Signed.{shrZ, nonNeg, ltZ}
+use lib.Signed.{shrZ, nonNeg, ltZ, leZ}
 use borrow.Author.Tests.{ltb-true}
 use mir.Syntax.{w64}
 use mir.Val.{SFits}
@@ -149,3 +149,21 @@ abs-less y z = omega (arith, abs-is (is-minus (is-self y) (is-self z)), abs-part
 pub sfits-abs : {z : ℤ} → natAbs z < 2 ^ 63 → SFits w64 z
 sfits-abs {z = pos n} h = record { sfits = h }
 sfits-abs {z = negsuc n} h = record { sfits = omega arith }
+
+-- ---- equal differences, and integers that are not negative
+
+-- one difference, one integer
+pub is-same : {y z : ℤ} {p n : ℕ} → Is y p n → Is z p n → y ≡ z
+is-same {y = pos a} {z = pos b} h k = ap pos (omega (arith, h .is, k .is))
+is-same {y = pos a} {z = negsuc b} h k = absurd (omega (arith, h .is, k .is))
+is-same {y = negsuc a} {z = pos b} h k = absurd (omega (arith, h .is, k .is))
+is-same {y = negsuc a} {z = negsuc b} h k = ap negsuc (omega (arith, h .is, k .is))
+
+-- the difference of two naturals
+pub is-less : (p n : ℕ) → Is (pos p -ℤ pos n) p n
+is-less p n = is-shift (is-minus (is-pos p) (is-pos n)) (omega arith)
+
+-- an integer that is not negative is its size
+pub sized : (z : ℤ) → T (leZ (pos 0) z) → z ≡ pos (natAbs z)
+sized (pos n) t = refl
+sized (negsuc n) t = absurd t

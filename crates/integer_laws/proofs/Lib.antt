@@ -1,3 +1,4 @@
 pub mod Differences
 pub mod Machine
 pub mod Shifts
+pub mod Tests

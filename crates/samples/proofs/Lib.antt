@@ -1,1 +1,4 @@
+pub mod Codes
+pub mod Means
 pub mod Sums
+pub mod Tiles

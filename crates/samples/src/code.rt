@@ -3,7 +3,8 @@ ghost use mathlib.Core.Path.{_≡_};
 ghost use Prim.Native.Nat.{ℕ, _≤_};
 ghost use lib.IntN.{pos, natAbs, _*ℤ_};
 ghost use Rattle.rules.specs.Weights.{lumaRow, cbRow, crRow};
-ghost use Rattle.rules.specs.Sample.{weighted, signedCode};
+ghost use Rattle.rules.specs.Sample.{weighted, signedCode, code};
+ghost use Rattle.rule_laws.specs.Codes.{Between};
 use rules::Pixel;
 use rules::Triple;
 use rules::Weights;
@@ -60,4 +61,13 @@ pub fn signed_code(precision: u32, bias: u32, w: Triple, p: Pixel) -> i64
     let start = (bias << precision) + ((1 << (precision - 1)) - 1);
     let sum = weighted(w, p) + (start as i64);
     sum >> precision
+}
+
+// The code as it is stored, where it is known to fit.
+pub fn code(precision: u32, bias: u32, w: Triple, p: Pixel) -> u16
+    requires { ⌜ (1 ≤ precision) × (precision ≤ 13) × (bias ≤ 65535) ⌝ }
+    requires { ⌜ Between (pos 0) (pos 65535) (signedCode precision bias w p) ⌝ }
+    ensures { λ r. ⌜ r ≡ code precision bias w p ⌝ }
+{
+    signed_code(precision, bias, w, p) as u16
 }

@@ -28,7 +28,7 @@ use Rattle.rule_laws.proofs.Depths.{sane}
 use Rattle.rule_laws.proofs.Extremes.{spans, coded, black-code}
 use Rattle.float_laws.proofs.Signs.{signs}
 use Rattle.yuv_support.specs.Held.{Held}
-use Rattle.settle.specs.Usable.{Usable}
+use Rattle.rule_laws.specs.Usable.{Usable}
 use Rattle.settle.proofs.Verdicts.{Passed, passed}
 
 -- ---- rule 3 holds of the pair, whichever the matrix is
@@ -87,10 +87,7 @@ usable-weights s f k =
     let cb = spans p m uv (cbRow w) true true false (2 ^ p) (b .cbr) (b .cbg) (b .cbb) in
     let cr = spans p m uv (crRow w) false true true (2 ^ p) (b .crr) (b .crg) (b .crb) in
     record {
-      shallow = k .shallow;
-      deep = k .deep;
-      coarse = k .coarse;
-      fine = k .fine;
+      reach = record { shallow = k .shallow; deep = k .deep; coarse = k .coarse; fine = k .fine };
       weights = b;
       luma = luma;
       cb = cb;

@@ -1,1 +1,1 @@
-pub mod Usable
+pub mod Promised

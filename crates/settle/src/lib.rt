@@ -2,7 +2,7 @@
 ghost use mathlib.Core.Path.{_≡_};
 ghost use Rattle.rules.specs.Refusals.{outside};
 ghost use Rattle.rules.specs.Settle.{settle};
-ghost use Rattle.settle.specs.Usable.{Promised};
+ghost use Rattle.settle.specs.Promised.{Promised};
 
 mod codes;
 mod nearness;

@@ -1,0 +1,51 @@
+-- The exact values that the functions work out are those of rules. Assumes nothing.
+use mathlib.Core.Path.{_≡_, refl, sym}
+use mathlib.Core.Bool.{Bool, true, false, cond}
+use mathlib.Core.List.{List}
+use Prim.Native.Nat.{ℕ, _-_, _*_, _≤_}
+use native.Mathlib.Omega.{arith}
+use lib.IntN.{pos, _-ℤ_, _*ℤ_}
+use lib.ListN.{length}
+use Rattle.rules.specs.declared.Named.{Named}
+use Rattle.rules.specs.declared.Pixel.{Pixel}
+use Rattle.rules.specs.Blocks.{total}
+use Rattle.rules.specs.Fractions.{exactLuma}
+use Rattle.integer_laws.proofs.Differences.{is-pos, is-times, is-as}
+use Rattle.tolerance_laws.specs.Block.{Block, one, two, four}
+use Rattle.tolerance_laws.specs.Chroma.{ownK, exactChroma}
+use Rattle.integer_laws.proofs.Differences.{is-same, is-less}
+use Rattle.fractions.specs.declared.Sums.{Sums}
+use Rattle.fractions.specs.Sums.{sumsOf, lumaBy, chromaBy, UpToFour}
+
+-- ---- the numerators
+
+-- a difference times a range, by its two parts
+pub parts-times : {plus minus : ℕ} (a s range : ℕ) → plus ≡ a * range → minus ≡ s * range → pos plus -ℤ pos minus ≡ (pos a -ℤ pos s) *ℤ pos range
+parts-times {plus} {minus} a s range e f = is-same (is-less plus minus) (is-as (is-times (is-less a s) range) (sym e) (sym f))
+
+-- a part with nothing to take away
+pub part-alone : {plus a : ℕ} → plus ≡ a → pos plus -ℤ pos 0 ≡ pos a
+part-alone {plus} {a} e = is-same (is-less plus 0) (is-as (is-pos a) (sym e) refl)
+
+-- ---- by a block of pixels
+
+-- luma
+pub luma-of : (k : Named) (m bias range : ℕ) {under : ℕ} (b : List Pixel) → under ≡ 10000 * m → lumaBy k bias range under (sumsOf b) ≡ exactLuma k m bias range b
+luma-of k m bias range b e = λ i. lumaBy k bias range (e i) (sumsOf b)
+
+-- the sum of the channel's own
+abbrev pub ownSum : Bool → Sums → ℕ
+ownSum u s = cond u (s .blue) (s .red)
+
+-- Cb or Cr
+pub chroma-of : (u : Bool) (k : Named) (m bias range : ℕ) {under : ℕ} {s : Sums} (b : List Pixel) → s ≡ sumsOf b → under ≡ 2 * (10000 - ownK u k) * length b * m →
+    chromaBy k bias range under (ownSum u s) s ≡ exactChroma u k m bias range b
+chroma-of true k m bias range b e f = λ i. chromaBy k bias range (f i) (e i .blue) (e i)
+chroma-of false k m bias range b e f = λ i. chromaBy k bias range (f i) (e i .red) (e i)
+
+-- the sums of a block at depth 16 or less
+pub sums-up-to-four : {m : ℕ} {b : List Pixel} → m ≤ 65535 → Block m b → UpToFour (sumsOf b)
+unfolding total
+sums-up-to-four l (one h) = record { red≤ = omega arith; green≤ = omega arith; blue≤ = omega arith }
+sums-up-to-four l (two h k) = record { red≤ = omega arith; green≤ = omega arith; blue≤ = omega arith }
+sums-up-to-four l (four h k i j) = record { red≤ = omega arith; green≤ = omega arith; blue≤ = omega arith }
