@@ -27,7 +27,7 @@ use Rattle.rules.specs.Storage.{word}
 use Rattle.rules.specs.Planes.{tabulate, element, written}
 use Rattle.rules.specs.Refusals.{first}
 use Rattle.rules.specs.Settle.{near, rowNear, allNear, codeOff, someCodeOff, settle}
-use Rattle.rules.specs.Frames.{anyBelow, tooLarge}
+use Rattle.rules.specs.Frames.{firstBelow, tooLargeAt}
 use Rattle.rules.specs.Convert.{wordOf, chromaWord, lumaAfter, chromaAfter}
 use Rattle.rules.specs.Check.{lumaRight}
 
@@ -118,7 +118,7 @@ pub record Computed : Type 0 where
 
 pub computed : Computed
 unfolding settle weightsOf near rowNear allNear codeOff someCodeOff signedCode weighted code first forward rounded
-    written element tabulate tooLarge anyBelow wordOf chromaWord word averaged block crossed total lumaAfter chromaAfter
+    written element tabulate tooLargeAt firstBelow wordOf chromaWord word averaged block crossed total lumaAfter chromaAfter
     mul div sub sum neg round units odd size span climb ofInt lt trailingZeros
 computed = record {
   j-weights = refl;

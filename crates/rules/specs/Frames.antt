@@ -1,12 +1,14 @@
 -- Document 01, refusals 7 to 10: what is asked of a frame and its buffers. Definitions only.
 use Prim.Native.Nat.{ℕ, zero, suc, _*_}
-use mathlib.Core.Bool.{Bool, false, not, _||_}
+use mathlib.Core.Bool.{Bool, true, false, not, _||_, cond}
 use mathlib.Core.List.{List, [], _∷_}
 use lib.Dec.{ltb, eqb}
 use lib.ListN.{length}
 use Rattle.rules.specs.declared.Settings.{Settings}
 use Rattle.rules.specs.declared.Frame.{Frame}
 use Rattle.rules.specs.declared.Pixel.{Pixel}
+use Rattle.rules.specs.declared.Search.{Search}
+use Rattle.rules.specs.declared.Search.the-variants.{Nothing, Found}
 use Rattle.rules.specs.declared.Refusal.the-variants.{Size, Stride, Length, TooLarge}
 use Rattle.rules.specs.Ranges.{most}
 use Rattle.rules.specs.Channels.{count, Picture, picture}
@@ -29,23 +31,39 @@ lengthOff s f source luma chroma =
     not (eqb source (f .height * f .«source_stride»))
     || (not (eqb luma (f .height * f .«luma_stride»)) || not (eqb chroma (chromaHeight (s .subsampling) (f .height) * f .«chroma_stride»)))
 
--- some channel of the pixel exceeds m
-abbrev pub high : ℕ → Pixel → Bool
-high m p = ltb m (p .red) || (ltb m (p .green) || ltb m (p .blue))
+-- ---- 10: "a visible colour sample of the source exceeds m"
 
--- the test holds at some number below n
-unfoldable pub anyBelow : ℕ → (ℕ → Bool) → Bool
-anyBelow zero t = false
-anyBelow (suc n) t = anyBelow n t || t n
+abbrev pub place : ℕ → ℕ → ℕ → Search
+place row pixel channel = Found (record { row = row; pixel = pixel; channel = channel })
 
--- 10: "a visible colour sample of the source exceeds m"
-unfoldable pub tooLarge : ℕ → Frame → Picture → Bool
-tooLarge m f px = anyBelow (f .height) (λ row. anyBelow (f .width) (λ column. high m (px row column)))
+abbrev pub orElse : Search → Search → Search
+orElse Nothing s = s
+orElse (Found q) s = Found q
+
+-- what f finds first, at 0, 1, .., n − 1
+unfoldable pub firstBelow : ℕ → (ℕ → Search) → Search
+firstBelow zero f = Nothing
+firstBelow (suc n) f = orElse (firstBelow n f) (f n)
+
+-- the first channel of a pixel that exceeds m: red before green before blue
+abbrev pub highAt : ℕ → ℕ → ℕ → Pixel → Search
+highAt m row pixel p =
+    cond (ltb m (p .red)) (place row pixel 0) (cond (ltb m (p .green)) (place row pixel 1) (cond (ltb m (p .blue)) (place row pixel 2) Nothing))
+
+-- the first visible sample that exceeds m, reading row by row
+unfoldable pub tooLargeAt : ℕ → Frame → Picture → Search
+tooLargeAt m f px = firstBelow (f .height) (λ row. firstBelow (f .width) (λ pixel. highAt m row pixel (px row pixel)))
+
+abbrev pub isFound : Search → Bool
+isFound Nothing = false
+isFound (Found q) = true
+
+-- ---- the table's lines for a frame
 
 abbrev pub frameLines : Settings → Frame → List ℕ → List ℕ → List ℕ → List Line
 frameLines s f source luma chroma =
     line Size (sizeOff f) ∷
     line Stride (strideOff s f) ∷
     line Length (lengthOff s f (length source) (length luma) (length chroma)) ∷
-    line TooLarge (tooLarge (most (s .depth)) f (picture (s .channels) (f .«source_stride») source)) ∷
+    line TooLarge (isFound (tooLargeAt (most (s .depth)) f (picture (s .channels) (f .«source_stride») source))) ∷
     []

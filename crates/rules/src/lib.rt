@@ -188,6 +188,19 @@ impl Refusal {
     }
 }
 
+// Where a colour sample of the source stands: rows and pixels count from 0; channel 0 is red, 1 green and 2 blue.
+pub struct SourcePlace {
+    pub row: usize,
+    pub pixel: usize,
+    pub channel: usize,
+}
+
+// What a search through the source finds.
+pub enum Search {
+    Nothing,
+    Found(SourcePlace),
+}
+
 // What settle answers.
 pub enum Settled {
     Weighed(Weights),
