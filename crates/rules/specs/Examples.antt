@@ -1,16 +1,15 @@
--- Document 01's examples, computed from the definitions: J's weights, both whole frames, p6, p11, p12 and three refusals.
+-- Document 01's whole frames, computed from the definitions: J's weights, the frames 3×1 and 3×2, a sample one too large, and two pairs that get refusal 3.
 use mathlib.Core.Path.{_≡_, refl}
-use mathlib.Core.Bool.{Bool, true, false}
 use mathlib.Core.List.{List, [], _∷_, _++_}
 use Prim.Native.Nat.{ℕ}
 use lib.Count.{trailingZeros}
 use lib.IntN.{pos, negsuc}
-use lib.Ieee.{Float, nan, fin, mul, div, sub, sum, neg, round, units, odd, size, span, climb, ofInt, lt}
+use lib.Ieee.{nan, mul, div, sub, sum, neg, round, units, odd, size, span, climb, ofInt, lt}
 use Rattle.rules.specs.declared.Settings.{Settings}
 use Rattle.rules.specs.declared.Frame.{Frame}
 use Rattle.rules.specs.declared.Weights.{Weights}
 use Rattle.rules.specs.declared.YuvStandardMatrix.{YuvStandardMatrix}
-use Rattle.rules.specs.declared.YuvStandardMatrix.the-variants.{Bt601, Smpte240, Custom}
+use Rattle.rules.specs.declared.YuvStandardMatrix.the-variants.{Bt601, Custom}
 use Rattle.rules.specs.declared.YuvRange.the-variants.{Full}
 use Rattle.rules.specs.declared.YuvChromaSubsampling.the-variants.{Yuv420}
 use Rattle.rules.specs.declared.YuvNVOrder.the-variants.{UV}
@@ -18,8 +17,7 @@ use Rattle.rules.specs.declared.YuvBytesPacking.the-variants.{LeastSigni
 use Rattle.rules.specs.declared.YuvEndianness.the-variants.{LittleEndian}
 use Rattle.rules.specs.declared.YuvSourceChannels.the-variants.{Rgb}
 use Rattle.rules.specs.declared.Settled.the-variants.{Weighed, Refused}
-use Rattle.rules.specs.declared.Refusal.the-variants.{CodeOutside, CustomPair}
-use Rattle.rules.specs.Channels.{picture}
+use Rattle.rules.specs.declared.Refusal.the-variants.{CustomPair}
 use Rattle.rules.specs.Weights.{forward, rounded, weightsOf, half}
 use Rattle.rules.specs.Sample.{weighted, signedCode, code}
 use Rattle.rules.specs.Blocks.{crossed, total, block, averaged}
@@ -29,10 +27,9 @@ use Rattle.rules.specs.Refusals.{first}
 use Rattle.rules.specs.Settle.{near, rowNear, allNear, codeOff, someCodeOff, settle}
 use Rattle.rules.specs.Frames.{firstBelow, tooLargeAt}
 use Rattle.rules.specs.Convert.{wordOf, chromaWord, lumaAfter, chromaAfter}
-use Rattle.rules.specs.Check.{lumaRight}
 
 -- full range, P = 13, 4:2:0, RGB, UV, least-significant, little endian, at a depth and a matrix
-abbrev example : ℕ → YuvStandardMatrix → Settings
+abbrev pub example : ℕ → YuvStandardMatrix → Settings
 example d m = record {
   depth = d;
   precision = 13;
@@ -46,10 +43,10 @@ example d m = record {
 }
 
 -- "J" is Bt601, full, d = 10, P = 13
-abbrev j : Settings
+abbrev pub j : Settings
 j = example 10 Bt601
 
-abbrev jWeights : Weights
+abbrev pub jWeights : Weights
 jWeights = record {
   yr = pos 2449;
   yg = pos 4809;
@@ -60,19 +57,6 @@ jWeights = record {
   «cr_r» = pos 4096;
   «cr_g» = negsuc 3429;
   «cr_b» = negsuc 665;
-}
-
-abbrev smpteWeights : Weights
-smpteWeights = record {
-  yr = pos 1737;
-  yg = pos 5743;
-  yb = pos 713;
-  «cb_r» = negsuc 950;
-  «cb_g» = negsuc 3144;
-  «cb_b» = pos 4096;
-  «cr_r» = pos 4096;
-  «cr_g» = negsuc 3643;
-  «cr_b» = negsuc 451;
 }
 
 -- a whole frame of 3 by `height`, strides 9, 4, 6
@@ -94,10 +78,6 @@ luma = 7 ∷ 7 ∷ 7 ∷ 7 ∷ []
 abbrev chroma : List ℕ
 chroma = 7 ∷ 7 ∷ 7 ∷ 7 ∷ 7 ∷ 7 ∷ []
 
--- p6: whether a code is right for the luma of J's red pixel
-abbrev redLuma : ℕ → Bool
-redLuma c = lumaRight j (record { kr = 2990; kb = 1140 }) (picture Rgb 9 row) 0 0 c
-
 pub record Computed : Type 0 where
   pub j-weights : settle j ≡ Weighed jWeights
   pub luma-3×1 : lumaAfter j (frame 1) row luma chroma ≡ 306 ∷ 117 ∷ 1023 ∷ 7 ∷ []
@@ -107,11 +87,6 @@ pub record Computed : Type 0 where
   -- a sample one too large: nothing changes
   pub luma-kept : lumaAfter j (frame 1) high luma chroma ≡ luma
   pub chroma-kept : chromaAfter j (frame 1) high luma chroma ≡ chroma
-  pub p6-306 : redLuma 306 ≡ true
-  pub p6-305 : redLuma 305 ≡ false
-  pub p6-307 : redLuma 307 ≡ false
-  pub p11 : settle (example 12 Smpte240) ≡ Weighed smpteWeights
-  pub p12 : settle (example 13 Smpte240) ≡ Refused CodeOutside
   -- a custom pair that is not a number, and one whose kg is 0
   pub not-a-number : settle (example 10 (Custom nan half)) ≡ Refused CustomPair
   pub no-green : settle (example 10 (Custom half half)) ≡ Refused CustomPair
@@ -128,11 +103,6 @@ computed = record {
   chroma-3×2 = refl;
   luma-kept = refl;
   chroma-kept = refl;
-  p6-306 = refl;
-  p6-305 = refl;
-  p6-307 = refl;
-  p11 = refl;
-  p12 = refl;
   not-a-number = refl;
   no-green = refl;
 }

@@ -13,3 +13,4 @@ pub mod Frames
 pub mod Convert
 pub mod Check
 pub mod Examples
+pub mod Table

@@ -2,3 +2,4 @@ pub mod Codes
 pub mod Means
 pub mod Sums
 pub mod Tiles
+pub mod Words

@@ -1,0 +1,134 @@
+-- Document 01, "Table of proved examples": p1 to p12, by one statement over one list.
+use mathlib.Core.Bool.{Bool, true, false, not, _&&_}
+use mathlib.Core.List.{List, [], _∷_}
+use Prim.Native.Nat.{ℕ}
+use lib.Count.{trailingZeros}
+use lib.Dec.{T, eqb}
+use lib.Ieee.{mul, div, sub, sum, neg, round, units, odd, size, span, climb, ofInt}
+use lib.IntN.{ℤ, pos, negsuc}
+use lib.ListN.{length}
+use lib.Signed.{leZ}
+use Rattle.rules.specs.declared.Settings.{Settings}
+use Rattle.rules.specs.declared.Settled.{Settled}
+use Rattle.rules.specs.declared.Settled.the-variants.{Weighed, Refused}
+use Rattle.rules.specs.declared.Named.{Named}
+use Rattle.rules.specs.declared.Pixel.{Pixel}
+use Rattle.rules.specs.declared.Triple.{Triple}
+use Rattle.rules.specs.declared.YuvStandardMatrix.the-variants.{Bt709, Smpte240}
+use Rattle.rules.specs.declared.YuvRange.the-variants.{Limited}
+use Rattle.rules.specs.declared.YuvBytesPacking.{YuvBytesPacking}
+use Rattle.rules.specs.declared.YuvBytesPacking.the-variants.{MostSignificantBytes, LeastSignificantBytes}
+use Rattle.rules.specs.declared.YuvEndianness.{YuvEndianness}
+use Rattle.rules.specs.declared.YuvEndianness.the-variants.{BigEndian, LittleEndian}
+use Rattle.rules.specs.Weights.{forward, rounded, weightsOf, lumaRow, cbRow, crRow}
+use Rattle.rules.specs.Sample.{weighted, signedCode}
+use Rattle.rules.specs.Blocks.{total, mean}
+use Rattle.rules.specs.Storage.{word}
+use Rattle.rules.specs.Refusals.{numberOf, first}
+use Rattle.rules.specs.Settle.{near, rowNear, allNear, colour, white, blue, yellow, red, codeOff, someCodeOff, settle}
+use Rattle.rules.specs.Check.{lumaRight}
+use Rattle.rules.specs.Examples.{example, j, jWeights}
+
+-- an example, with what it must give last
+pub data Example : Type 0 where
+  -- the code of a pixel, by a precision, a bias and three weights
+  codes : ℕ → ℕ → Triple → Pixel → ℤ → Example
+  -- whether check calls a code right for a pixel's luma
+  checks : Settings → Named → Pixel → ℕ → Bool → Example
+  -- the word that a code of a depth is stored as
+  stores : YuvBytesPacking → YuvEndianness → ℕ → ℕ → ℕ → Example
+  -- the mean of some samples
+  means : List ℕ → ℕ → Example
+  -- the luma weights that settle hands out, and the number by which it refuses
+  settles : Settings → Triple → Example
+  refuses : Settings → ℕ → Example
+
+abbrev pub sameZ : ℤ → ℤ → Bool
+sameZ a b = leZ a b && leZ b a
+
+abbrev pub same : Bool → Bool → Bool
+same true b = b
+same false b = not b
+
+abbrev pub accepts : Settled → Triple → Bool
+accepts (Weighed w) t = let l = lumaRow w in sameZ (l .red) (t .red) && (sameZ (l .green) (t .green) && sameZ (l .blue) (t .blue))
+accepts (Refused r) t = false
+
+abbrev pub declines : Settled → ℕ → Bool
+declines (Weighed w) n = false
+declines (Refused r) n = eqb (numberOf r) n
+
+unfoldable pub holds : Example → Bool
+holds (codes p bias w x c) = sameZ (signedCode p bias w x) c
+holds (checks s k x c e) = same e (lumaRight s k (λ row column. x) 0 0 c)
+holds (stores k e d c v) = eqb (word k e d c) v
+holds (means l m) = eqb (mean (length l) (total l)) m
+holds (settles s t) = accepts (settle s) t
+holds (refuses s n) = declines (settle s) n
+
+unfoldable pub every : List Example → Bool
+every [] = true
+every (e ∷ es) = holds e && every es
+
+abbrev luma : ℤ → ℤ → ℤ → Triple
+luma r g b = record { red = r; green = g; blue = b }
+
+-- Bt709 limited, d = 10, P = 13
+abbrev bt709 : Settings
+bt709 = record {
+  depth = 10;
+  precision = 13;
+  matrix = Bt709;
+  range = Limited;
+  subsampling = j .subsampling;
+  order = j .order;
+  packing = j .packing;
+  endianness = j .endianness;
+  channels = j .channels;
+}
+
+abbrev examples : List Example
+examples =
+    -- p1: J red (1023,0,0): 306, 339, 1023
+    codes 13 0 (lumaRow jWeights) (red 1023) (pos 306) ∷
+    codes 13 512 (cbRow jWeights) (red 1023) (pos 339) ∷
+    codes 13 512 (crRow jWeights) (red 1023) (pos 1023) ∷
+    -- p2: J blue: 117, 1023, 429
+    codes 13 0 (lumaRow jWeights) (blue 1023) (pos 117) ∷
+    codes 13 512 (cbRow jWeights) (blue 1023) (pos 1023) ∷
+    codes 13 512 (crRow jWeights) (blue 1023) (pos 429) ∷
+    -- p3: J (0,0,1): Cb 512, an exact half
+    codes 13 512 (cbRow jWeights) (colour 0 0 1) (pos 512) ∷
+    -- p4: J yellow (1023,1023,0): Cb 0
+    codes 13 512 (cbRow jWeights) (yellow 1023) (pos 0) ∷
+    -- p5: J white: 1023, 512, 512
+    codes 13 0 (lumaRow jWeights) (white 1023) (pos 1023) ∷
+    codes 13 512 (cbRow jWeights) (white 1023) (pos 512) ∷
+    codes 13 512 (crRow jWeights) (white 1023) (pos 512) ∷
+    -- p6: J check of the red pixel's luma: 306 within; 305 and 307 wrong
+    checks j (record { kr = 2990; kb = 1140 }) (red 1023) 306 true ∷
+    checks j (record { kr = 2990; kb = 1140 }) (red 1023) 305 false ∷
+    checks j (record { kr = 2990; kb = 1140 }) (red 1023) 307 false ∷
+    -- p7: luma weights 1491, 5017, 506 (Bt709 limited, d = 10, P = 13): white 940
+    settles bt709 (luma (pos 1491) (pos 5017) (pos 506)) ∷
+    codes 13 64 (luma (pos 1491) (pos 5017) (pos 506)) (white 1023) (pos 940) ∷
+    -- p8: 940 at d = 10: most-significant 60160, exchanged 235
+    stores MostSignificantBytes LittleEndian 10 940 60160 ∷
+    stores MostSignificantBytes BigEndian 10 940 235 ∷
+    -- p9: 940 least-significant, exchanged: 44035
+    stores LeastSignificantBytes BigEndian 10 940 44035 ∷
+    -- p10: four-pixel mean of 0,0,0,1 is 0; of 0,0,1,1 is 1
+    means (0 ∷ 0 ∷ 0 ∷ 1 ∷ []) 0 ∷
+    means (0 ∷ 0 ∷ 1 ∷ 1 ∷ []) 1 ∷
+    -- p11: luma weights 1737, 5743, 713 (Smpte240 full, P = 13): white at d = 12 is 4095
+    settles (example 12 Smpte240) (luma (pos 1737) (pos 5743) (pos 713)) ∷
+    codes 13 0 (luma (pos 1737) (pos 5743) (pos 713)) (white 4095) (pos 4095) ∷
+    -- p12: the same at d = 13: white is 8192, refusal 5
+    codes 13 0 (luma (pos 1737) (pos 5743) (pos 713)) (white 8191) (pos 8192) ∷
+    refuses (example 13 Smpte240) 5 ∷
+    []
+
+pub table : T (every examples)
+unfolding every holds settle weightsOf near rowNear allNear codeOff someCodeOff signedCode weighted first forward rounded
+    word total mul div sub sum neg round units odd size span climb ofInt trailingZeros
+table = tt
