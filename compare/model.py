@@ -1,0 +1,188 @@
+"""A model of document 01 that shares nothing with the proved code: exact fractions, 32-bit floats rounded from them to the
+nearest (ties to even), and whole numbers of any size."""
+import struct
+from fractions import Fraction
+
+TABLE = {'Bt601': (2990, 1140), 'Bt709': (2126, 722), 'Bt2020': (2627, 593), 'Smpte240': (2120, 870), 'Bt470_6': (2220, 713)}
+COUNT = (3, 4, 4, 3)
+PLACES = ((0, 1, 2), (0, 1, 2), (2, 1, 0), (2, 1, 0))
+LARGEST = Fraction(2 ** 24 - 1) * 2 ** 104
+
+
+def f32(x):
+    """The 32-bit float nearest to a fraction, as a fraction, or an infinity."""
+    if x == 0:
+        return Fraction(0)
+    size = abs(x)
+    e = max(-149, size.numerator.bit_length() - size.denominator.bit_length() - 25)
+    while size >= Fraction(2) ** (e + 24):
+        e += 1
+    n, rest = divmod(size, Fraction(2) ** e)
+    if rest * 2 > Fraction(2) ** e or (rest * 2 == Fraction(2) ** e and n % 2 == 1):
+        n += 1
+    size = n * Fraction(2) ** e
+    if size > LARGEST:
+        return float('inf') if x > 0 else float('-inf')
+    return size if x > 0 else -size
+
+
+def special(x):
+    return isinstance(x, float)
+
+
+def sub(a, b):
+    return f32(a - b) if not (special(a) or special(b)) else float(a) - float(b)
+
+
+def mul(a, b):
+    return f32(a * b) if not (special(a) or special(b)) else float(a) * float(b)
+
+
+def div(a, b):
+    if special(a) or special(b):
+        return float(a) / float(b) if b != 0 else float('nan')
+    return f32(a / b) if b != 0 else float('nan')
+
+
+def from_bits(bits):
+    x = struct.unpack('<f', struct.pack('<I', bits))[0]
+    return x if x != x or x in (float('inf'), float('-inf')) else Fraction(x)
+
+
+def forward(m, range_y, range_uv, kr, kb):
+    kg = sub(sub(Fraction(1), kr), kb)
+    half = Fraction(1, 2)
+
+    def luma(k):
+        return div(mul(k, range_y), m)
+
+    def other(k, own):
+        return div(mul(div(mul(-half, k), sub(Fraction(1), own)), range_uv), m)
+
+    def own():
+        return div(mul(half, range_uv), m)
+
+    return [luma(kr), luma(kg), luma(kb), other(kr, kb), other(kg, kb), own(), own(), other(kg, kr), other(kb, kr)]
+
+
+def nearest(x):
+    """Halves away from zero."""
+    n = int(abs(x) + Fraction(1, 2))
+    return n if x >= 0 else -n
+
+
+def code(p, bias, w, pixel):
+    return (sum(a * b for a, b in zip(w, pixel)) + bias * 2 ** p + 2 ** (p - 1) - 1) // 2 ** p
+
+
+def settle(named, pair, full, depth, p):
+    if not 10 <= depth <= 16:
+        return 1
+    if not 1 <= p <= 13:
+        return 2
+    m = 2 ** depth - 1
+    bias_y, range_y, range_uv = (0, m, m) if full else tuple(n * 2 ** (depth - 8) for n in (16, 219, 224))
+    bias_uv = 2 ** (depth - 1)
+    if named:
+        kr, kb = (f32(Fraction(n, 10000)) for n in TABLE[named])
+    else:
+        kr, kb = pair
+        if not (kr > 0 and kb > 0 and sub(sub(Fraction(1), kr), kb) > 0):
+            return 3
+    w = [nearest(mul(x, 2 ** p)) for x in forward(m, range_y, range_uv, kr, kb)]
+    if named:
+        r, b = TABLE[named]
+        g = 10000 - r - b
+        cb, cr = 2 * (10000 - b), 2 * (10000 - r)
+        exact = [Fraction(n * range_y, 10000 * m) for n in (r, g, b)]
+        exact += [Fraction(n * range_uv, cb * m) for n in (-r, -g, 10000 - b)]
+        exact += [Fraction(n * range_uv, cr * m) for n in (10000 - r, -g, -b)]
+        if any(abs(a - 2 ** p * e) > Fraction(51, 100) for a, e in zip(w, exact)):
+            return 4
+    codes = [code(p, bias_y, w[0:3], (m, m, m)), code(p, bias_uv, w[3:6], (0, 0, m)), code(p, bias_uv, w[3:6], (m, m, 0)),
+             code(p, bias_uv, w[6:9], (m, 0, 0)), code(p, bias_uv, w[6:9], (0, m, m))]
+    return 5 if any(not 0 <= c <= m for c in codes) else w
+
+
+class Settings:
+    """Numbers as the Rust has them: range 0 limited, subsampling 0 is 4:2:0, 1 4:2:2, 2 4:4:4, order 0 UV, packing 0 most
+    significant, endianness 0 big, channels Rgb, Rgba, Bgra, Bgr. The matrix is a name or a pair of floats."""
+
+    def __init__(self, depth, precision, matrix, full, subsampling, order, packing, endianness, channels):
+        self.depth, self.precision, self.matrix, self.full, self.subsampling = depth, precision, matrix, full, subsampling
+        self.order, self.packing, self.endianness, self.channels = order, packing, endianness, channels
+
+    def settle(self):
+        named = isinstance(self.matrix, str)
+        return settle(self.matrix if named else None, None if named else self.matrix, self.full, self.depth, self.precision)
+
+    def m(self):
+        return 2 ** self.depth - 1
+
+    def bias_y(self):
+        return 0 if self.full else 16 * 2 ** (self.depth - 8)
+
+    def chroma_size(self, width, height):
+        wide = 2 * width if self.subsampling == 2 else 2 * -(-width // 2)
+        return wide, -(-height // 2) if self.subsampling == 0 else height
+
+    def word(self, c):
+        v = c << (16 - self.depth) if self.packing == 0 else c
+        return v % 256 * 256 + v // 256 if self.endianness == 0 else v
+
+
+class Frame:
+    def __init__(self, width, height, source_stride, luma_stride, chroma_stride):
+        self.width, self.height = width, height
+        self.source_stride, self.luma_stride, self.chroma_stride = source_stride, luma_stride, chroma_stride
+
+
+def pixel(s, f, source, row, column):
+    at = row * f.source_stride + column * COUNT[s.channels]
+    return tuple(source[at + p] for p in PLACES[s.channels])
+
+
+def block(s, f, row, pair):
+    """Rows and columns of the pixels of a chroma pair."""
+    columns = [pair] if s.subsampling == 2 else [x for x in (2 * pair, 2 * pair + 1) if x < f.width]
+    rows = [y for y in (2 * row, 2 * row + 1) if y < f.height] if s.subsampling == 0 else [row]
+    return [(y, x) for y in rows for x in columns]
+
+
+def frame_refusal(s, f, source, luma, chroma):
+    """7 to 10, or 0."""
+    if not (1 <= f.width <= 16384 and 1 <= f.height <= 16384):
+        return 7
+    wide, high = s.chroma_size(f.width, f.height)
+    strides = ((f.width * COUNT[s.channels], f.source_stride), (f.width, f.luma_stride), (wide, f.chroma_stride))
+    if any(not low <= stride <= 65536 for low, stride in strides):
+        return 8
+    if (len(source), len(luma), len(chroma)) != (f.height * f.source_stride, f.height * f.luma_stride, high * f.chroma_stride):
+        return 9
+    if any(max(pixel(s, f, source, y, x)) > s.m() for y in range(f.height) for x in range(f.width)):
+        return 10
+    return 0
+
+
+def mean(samples):
+    return (sum(samples) + len(samples) // 2) // len(samples)
+
+
+def convert(s, f, source, luma, chroma):
+    """The number of the refusal or 0, and both planes after."""
+    w = s.settle()
+    number = w if isinstance(w, int) else frame_refusal(s, f, source, luma, chroma)
+    if number:
+        return number, luma, chroma
+    luma, chroma = list(luma), list(chroma)
+    for y in range(f.height):
+        for x in range(f.width):
+            luma[y * f.luma_stride + x] = s.word(code(s.precision, s.bias_y(), w[0:3], pixel(s, f, source, y, x)))
+    wide, high = s.chroma_size(f.width, f.height)
+    for row in range(high):
+        for k in range(wide):
+            pixels = [pixel(s, f, source, y, x) for y, x in block(s, f, row, k // 2)]
+            is_u = k % 2 == s.order
+            average = tuple(mean([p[c] for p in pixels]) for c in range(3))
+            chroma[row * f.chroma_stride + k] = s.word(code(s.precision, 2 ** (s.depth - 1), w[3:6] if is_u else w[6:9], average))
+    return 0, luma, chroma
