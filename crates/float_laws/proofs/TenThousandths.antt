@@ -1,8 +1,7 @@
 -- A whole number of 24 bits divided by 10000, in floats, is the float nearest to the fraction. Assumes nothing.
 use mathlib.Core.Path.{_≡_, ap, _∙_}
 use Prim.Native.Nat.{ℕ, _*_, _^_, _≤_}
-use native.Mathlib.Nat.{mul-one, mul-assoc, mul-comm, mul-left-comm, mul-pos}
-use native.Mathlib.Omega.{arith}
+use native.Mathlib.Nat.{mul-assoc, mul-comm, mul-pos}
 use mathlib.Core.Bool.{true, false, true≢false}
 use lib.Dec.{lit<}
 use lib.IntN.{pos}

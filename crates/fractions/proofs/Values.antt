@@ -10,10 +10,9 @@ use Rattle.rules.specs.declared.Named.{Named}
 use Rattle.rules.specs.declared.Pixel.{Pixel}
 use Rattle.rules.specs.Blocks.{total}
 use Rattle.rules.specs.Fractions.{exactLuma}
-use Rattle.integer_laws.proofs.Differences.{is-pos, is-times, is-as}
+use Rattle.integer_laws.proofs.Differences.{is-pos, is-times, is-as, is-same, is-less}
 use Rattle.tolerance_laws.specs.Block.{Block, one, two, four}
 use Rattle.tolerance_laws.specs.Chroma.{ownK, exactChroma}
-use Rattle.integer_laws.proofs.Differences.{is-same, is-less}
 use Rattle.fractions.specs.declared.Sums.{Sums}
 use Rattle.fractions.specs.Sums.{sumsOf, lumaBy, chromaBy, UpToFour}
 

@@ -7,7 +7,7 @@ use native.Mathlib.Omega.{arith}
 use lib.Dec.{leb, ltb, eqb}
 use borrow.Author.Tests.{le-leb, lt-leb, le-ltb, lt-ltb, leb-true, leb-false, eq-eqb}
 use Rattle.rules.specs.declared.Refusal.{Refusal}
-use Rattle.rules.specs.Refusals.{numberOf, outside, Line, Verdict, passes, refuses, pick, first}
+use Rattle.rules.specs.Refusals.{numberOf, outside, Line, passes, refuses, pick, first}
 
 -- ---- a table's lines
 pub end : first [] ≡ passes

@@ -6,7 +6,6 @@ use mathlib.Core.List.{List, [], _∷_, _++_}
 use lib.ListN.{getD}
 use Rattle.rules.specs.declared.Settings.{Settings}
 use Rattle.rules.specs.declared.Frame.{Frame}
-use Rattle.rules.specs.declared.Place.{Place}
 use Rattle.rules.specs.declared.Named.{Named}
 use Rattle.rules.specs.declared.Matrix.{Matrix}
 use Rattle.rules.specs.declared.Matrix.the-variants.{Tabled, Own}

@@ -5,7 +5,7 @@ use Prim.Native.Nat.{ℕ}
 use lib.Count.{trailingZeros}
 use lib.Dec.{T, eqb}
 use lib.Ieee.{mul, div, sub, sum, neg, round, units, odd, size, span, climb, ofInt}
-use lib.IntN.{ℤ, pos, negsuc}
+use lib.IntN.{ℤ, pos}
 use lib.ListN.{length}
 use lib.Signed.{leZ}
 use Rattle.rules.specs.declared.Settings.{Settings}

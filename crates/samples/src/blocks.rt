@@ -1,6 +1,6 @@
 // Which pixels a chroma pair is made of: its first column and row, and whether it has a second of each.
 ghost use mathlib.Core.Path.{_≡_};
-ghost use Prim.Native.Nat.{ℕ, _≤_, _<_};
+ghost use Prim.Native.Nat.{_≤_, _<_};
 ghost use Rattle.rules.specs.Blocks.{chromaWidth, chromaHeight};
 ghost use Rattle.samples.specs.Tiles.{leftOf, wideAt, topOf, twoAt};
 use rules::YuvChromaSubsampling;

@@ -1,6 +1,6 @@
 // The code of a pixel: the weighted sum, divided by 2^P and rounded down.
 ghost use mathlib.Core.Path.{_≡_};
-ghost use Prim.Native.Nat.{ℕ, _≤_};
+ghost use Prim.Native.Nat.{_≤_};
 ghost use lib.IntN.{pos, natAbs, _*ℤ_};
 ghost use Rattle.rules.specs.Weights.{lumaRow, cbRow, crRow};
 ghost use Rattle.rules.specs.Sample.{weighted, signedCode, code};

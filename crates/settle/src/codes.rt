@@ -1,6 +1,6 @@
 // Refusal 5: a code outside 0 to m.
 ghost use mathlib.Core.Path.{_≡_};
-ghost use Prim.Native.Nat.{ℕ, _≤_};
+ghost use Prim.Native.Nat.{_≤_};
 ghost use Rattle.rules.specs.Settle.{colour, codeOff, someCodeOff};
 use rules::Pixel;
 use rules::Settings;

@@ -15,9 +15,8 @@ use Rattle.rules.specs.Matrices.{kg}
 use Rattle.rules.specs.Sample.{weighted}
 use Rattle.rules.specs.Blocks.{total, reds, greens, blues}
 use Rattle.rules.specs.Fractions.{blended, exactLuma}
-use Rattle.integer_laws.proofs.Differences.{Is, is-pos, is-neg, is-add, is-minus, is-times, is-shift, abs-neg}
+use Rattle.integer_laws.proofs.Differences.{Is, is-pos, is-neg, is-add, is-minus, is-times, is-shift, abs-neg, is-same}
 use Rattle.tolerance_laws.specs.Chroma.{ownK, exactChroma}
-use Rattle.integer_laws.proofs.Differences.{is-same}
 use Rattle.tolerance_laws.proofs.Means.{sums}
 use Rattle.tolerance_laws.proofs.Rows.{SlightRow, valued}
 

@@ -17,10 +17,9 @@ use Rattle.rules.specs.Sample.{weighted, signedCode, code}
 use Rattle.rules.specs.Blocks.{averaged}
 use Rattle.rules.specs.Settle.{near, rowNear}
 use Rattle.rules.specs.Fractions.{Fraction, halves, within}
-use Rattle.integer_laws.proofs.Differences.{pp, np, Is, is-self, is-pos, is-add, is-minus, is-times, le-abs, shr-is, abs-parts}
+use Rattle.integer_laws.proofs.Differences.{pp, np, Is, is-self, is-pos, is-add, is-minus, is-times, le-abs, shr-is, abs-parts, sized}
 use Rattle.rule_laws.specs.Codes.{Low}
 use Rattle.tolerance_laws.specs.Block.{Block, one, two, four}
-use Rattle.integer_laws.proofs.Differences.{sized}
 use Rattle.integer_laws.proofs.Shifts.{pow-half}
 use Rattle.integer_laws.proofs.Tests.{both}
 use Rattle.tolerance_laws.proofs.Sides.{dot, Close, AllClose, Half, pixel-side, Means, Slight, mean-side}

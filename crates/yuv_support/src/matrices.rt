@@ -1,7 +1,7 @@
 // The table of matrices, and the pair of floats that a matrix uses.
 ghost use mathlib.Core.Path.{_≡_};
 ghost use Rattle.rules.specs.Matrices.{matrixOf};
-ghost use Prim.Native.Nat.{ℕ, _≤_};
+ghost use Prim.Native.Nat.{_≤_};
 ghost use Rattle.rules.specs.Weights.{nearest, pairOf};
 use rules::Matrix;
 use rules::Named;

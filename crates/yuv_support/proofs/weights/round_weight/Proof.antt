@@ -1,7 +1,7 @@
 -- `yuv_support::weights::round_weight` meets its contract. Assumes nothing.
-use mathlib.Core.Path.{_≡_, ap, _∙_}
-use lib.IntN.{ℤ, negℤ}
-use lib.Ieee.{ofBits, neg}
+use mathlib.Core.Path.{ap, _∙_}
+use lib.IntN.{negℤ}
+use lib.Ieee.{ofBits}
 use mir.Syntax.{w32}
 use mir.ValLaws.{toZ-pos}
 use Rattle.float_laws.proofs.Rounding.{rounded-lt, rounded-neg, neg-not-negative}
