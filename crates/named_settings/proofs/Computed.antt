@@ -44,31 +44,31 @@ unfolding both all ranged
 every k = all (λ (p : ℕ). all (both k p) (ranged 10 7)) (ranged 1 13)
 
 -- a custom pair has no row, and nothing to pass
-abbrev pub Passes : Matrix → Type 0
-Passes (Tabled k) = every k ≡ true
-Passes (Own p) = Unit
+abbrev pub RowPasses : Matrix → Type 0
+RowPasses (Tabled k) = every k ≡ true
+RowPasses (Own p) = Unit
 
-bt601 : Passes (matrixOf Bt601)
+bt601 : RowPasses (matrixOf Bt601)
 unfolding every
 bt601 = refl
 
-bt709 : Passes (matrixOf Bt709)
+bt709 : RowPasses (matrixOf Bt709)
 unfolding every
 bt709 = refl
 
-bt2020 : Passes (matrixOf Bt2020)
+bt2020 : RowPasses (matrixOf Bt2020)
 unfolding every
 bt2020 = refl
 
-smpte240 : Passes (matrixOf Smpte240)
+smpte240 : RowPasses (matrixOf Smpte240)
 unfolding every
 smpte240 = refl
 
-bt470 : Passes (matrixOf Bt470_6)
+bt470 : RowPasses (matrixOf Bt470_6)
 unfolding every
 bt470 = refl
 
-pub passes : (m : YuvStandardMatrix) → Passes (matrixOf m)
+pub passes : (m : YuvStandardMatrix) → RowPasses (matrixOf m)
 passes Bt601 = bt601
 passes Bt709 = bt709
 passes Bt2020 = bt2020

@@ -18,10 +18,12 @@ use Rattle.rules.specs.declared.Refusal.the-variants.{WeightOff}
 use Rattle.rules.specs.Ranges.{most, rangeY, rangeUV}
 use Rattle.rules.specs.Matrices.{matrixOf}
 use Rattle.rules.specs.Weights.{pairOf, forward, integers, weightsOf}
-use Rattle.rules.specs.Refusals.{Verdict, passes as passed, refuses, first}
+use Rattle.rules.specs.declared.Verdict.{Verdict}
+use Rattle.rules.specs.declared.Verdict.the-variants.{Passes, Refuses}
+use Rattle.rules.specs.Refusals.{first}
 use Rattle.rules.specs.Settle.{allNear, weightOff, settleLines, settled, settle}
 use Rattle.rule_laws.proofs.Refusals.{skip, reached, ended, bounds}
-use Rattle.named_settings.proofs.Computed.{ranged, all, rowWeights, one, both, every, Passes, passes}
+use Rattle.named_settings.proofs.Computed.{ranged, all, rowWeights, one, both, every, RowPasses, passes}
 
 both-true : (x y : Bool) → x && y ≡ true → (x ≡ true) × (y ≡ true)
 both-true true y h = (refl, h)
@@ -55,7 +57,7 @@ module _ (d p : ℕ) (shallow : 10 ≤ d) (deep : d ≤ 16) (coarse : 1 ≤ p) (
 -- ---- the theorem
 
 module _ (s : Settings) (shallow : 10 ≤ s .depth) (deep : s .depth ≤ 16) (coarse : 1 ≤ s .precision) (fine : s .precision ≤ 13) where
-  by-matrix : (m : Matrix) → Passes m → weightOff s m (integers (s .precision) (forward (most (s .depth)) (rangeY (s .range) (s .depth)) (rangeUV (s .range) (s .depth)) (pairOf m))) ≡ false
+  by-matrix : (m : Matrix) → RowPasses m → weightOff s m (integers (s .precision) (forward (most (s .depth)) (rangeY (s .range) (s .depth)) (rangeUV (s .range) (s .depth)) (pairOf m))) ≡ false
   by-matrix (Tabled k) h = ap not (near (s .depth) (s .precision) shallow deep coarse fine k (s .range) h)
   by-matrix (Own p) h = refl
 
@@ -63,9 +65,9 @@ module _ (s : Settings) (shallow : 10 ≤ s .depth) (deep : s .depth ≤ 16) (co
   unfolding weightsOf
   not-off = by-matrix (matrixOf (s .matrix)) (passes (s .matrix))
 
-opened : (v : Verdict) (w : Weights) (r : Refusal) → settled v w ≡ Refused r → v ≡ refuses r
-opened passed w r e = absurd (let z : _≡_ {A = ℕ} 0 1 = cc in omega arith)
-opened (refuses q) w r e = let h : q ≡ r = cc in ap refuses h
+opened : (v : Verdict) (w : Weights) (r : Refusal) → settled v w ≡ Refused r → v ≡ Refuses r
+opened Passes w r e = absurd (let z : _≡_ {A = ℕ} 0 1 = cc in omega arith)
+opened (Refuses q) w r e = let h : q ≡ r = cc in ap Refuses h
 
 -- THE THEOREM: no settings, and so no named ones, get refusal 4
 pub never : (s : Settings) → settle s ≡ Refused WeightOff → ⊥

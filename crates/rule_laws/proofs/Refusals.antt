@@ -7,15 +7,16 @@ use native.Mathlib.Omega.{arith}
 use lib.Dec.{leb, ltb, eqb}
 use borrow.Author.Tests.{le-leb, lt-leb, le-ltb, lt-ltb, leb-true, leb-false, eq-eqb}
 use Rattle.rules.specs.declared.Refusal.{Refusal}
-use Rattle.rules.specs.Refusals.{numberOf, outside, Line, passes, refuses, pick, first}
+use Rattle.rules.specs.declared.Verdict.the-variants.{Passes, Refuses}
+use Rattle.rules.specs.Refusals.{numberOf, outside, Line, pick, first}
 
 -- ---- a table's lines
-pub end : first [] ≡ passes
+pub end : first [] ≡ Passes
 unfolding first
 end = refl
 
 module _ (l : Line) (ls : List Line) where
-  pub stop : l .applies ≡ true → first (l ∷ ls) ≡ refuses (l .refusal)
+  pub stop : l .applies ≡ true → first (l ∷ ls) ≡ Refuses (l .refusal)
   unfolding first
   stop h = ap (λ (b : Bool). pick (l .refusal) b (first ls)) h
 
@@ -23,26 +24,26 @@ module _ (l : Line) (ls : List Line) where
   unfolding first
   skip h = ap (λ (b : Bool). pick (l .refusal) b (first ls)) h
 
-  pub passed : first (l ∷ ls) ≡ passes → (l .applies ≡ false) × (first ls ≡ passes)
+  pub passed : first (l ∷ ls) ≡ Passes → (l .applies ≡ false) × (first ls ≡ Passes)
   unfolding first
   passed h = go (l .applies) h
     where
-      go : (b : Bool) → pick (l .refusal) b (first ls) ≡ passes → (b ≡ false) × (first ls ≡ passes)
+      go : (b : Bool) → pick (l .refusal) b (first ls) ≡ Passes → (b ≡ false) × (first ls ≡ Passes)
       go true e = absurd (let z : _≡_ {A = ℕ} 0 1 = cc in omega arith)
       go false e = (refl, e)
 
   -- a refusal of another number comes from the lines after this one
-  pub reached : (r : Refusal) → eqb (numberOf (l .refusal)) (numberOf r) ≡ false → first (l ∷ ls) ≡ refuses r → (l .applies ≡ false) × (first ls ≡ refuses r)
+  pub reached : (r : Refusal) → eqb (numberOf (l .refusal)) (numberOf r) ≡ false → first (l ∷ ls) ≡ Refuses r → (l .applies ≡ false) × (first ls ≡ Refuses r)
   unfolding first
   reached r n h = go (l .applies) h
     where
-      go : (b : Bool) → pick (l .refusal) b (first ls) ≡ refuses r → (b ≡ false) × (first ls ≡ refuses r)
+      go : (b : Bool) → pick (l .refusal) b (first ls) ≡ Refuses r → (b ≡ false) × (first ls ≡ Refuses r)
       go true e = let q : l .refusal ≡ r = cc in absurd (true≢false (sym (eq-eqb (numberOf (l .refusal)) (numberOf r) (ap numberOf q)) ∙ n))
       go false e = (refl, e)
 
 -- nothing comes from no lines
-pub ended : (r : Refusal) → first [] ≡ refuses r → ⊥
-ended r e = let h : passes ≡ refuses r = sym end ∙ e in let z : _≡_ {A = ℕ} 0 1 = cc in omega arith
+pub ended : (r : Refusal) → first [] ≡ Refuses r → ⊥
+ended r e = let h : Passes ≡ Refuses r = sym end ∙ e in let z : _≡_ {A = ℕ} 0 1 = cc in omega arith
 
 -- ---- a number below a lower bound, from it on, and within two bounds
 module _ (low high n : ℕ) where

@@ -3,7 +3,7 @@ use Prim.Native.Nat.{ℕ, zero, suc, _+_, _*_, _/_, _<_}
 use mathlib.Core.Path.{_≡_}
 use mathlib.Core.Bool.{Bool, true, false, _&&_, cond}
 use mathlib.Core.List.{List, [], _∷_, _++_}
-use lib.ListN.{getD}
+use lib.ListN.{length, getD}
 use Rattle.rules.specs.declared.Settings.{Settings}
 use Rattle.rules.specs.declared.Frame.{Frame}
 use Rattle.rules.specs.declared.Named.{Named}
@@ -18,7 +18,9 @@ use Rattle.rules.specs.Matrices.{matrixOf}
 use Rattle.rules.specs.Blocks.{block, chromaWidth, chromaHeight}
 use Rattle.rules.specs.Storage.{wellFormed, stored}
 use Rattle.rules.specs.Fractions.{Fraction, exactLuma, exactCb, exactCr, halves, within}
-use Rattle.rules.specs.Refusals.{Line, line, Verdict, passes, refuses, first}
+use Rattle.rules.specs.declared.Verdict.{Verdict}
+use Rattle.rules.specs.declared.Verdict.the-variants.{Passes, Refuses}
+use Rattle.rules.specs.Refusals.{Line, line, first}
 use Rattle.rules.specs.Settle.{settleLines}
 use Rattle.rules.specs.Frames.{frameLines}
 
@@ -71,7 +73,7 @@ isCustom (Tabled k) = false
 -- settle's refusals, then 6, then the frame's
 abbrev pub checkLines : Settings → Frame → List ℕ → List ℕ → List ℕ → List Line
 checkLines s f source luma chroma =
-    settleLines s ++ (line CustomUnchecked (isCustom (matrixOf (s .matrix))) ∷ frameLines s f source luma chroma)
+    settleLines s ++ (line CustomUnchecked (isCustom (matrixOf (s .matrix))) ∷ frameLines s f source (length luma) (length chroma))
 
 -- accepted: both planes clean. Wrong in luma: its first wrong sample. Wrong in chroma: luma is clean, and chroma's first
 abbrev pub JudgedPlace : Test → ℕ → ℕ → Test → ℕ → ℕ → ℕ → ℕ → ℕ → Type 0
@@ -95,8 +97,8 @@ ByMatrix s (Tabled k) f px luma chroma r = Judged s k f px luma chroma r
 ByMatrix s (Own p) f px luma chroma r = ⊥
 
 abbrev pub ByVerdict : Verdict → Settings → Frame → List ℕ → List ℕ → List ℕ → Checked → Type 0
-ByVerdict (refuses n) s f source luma chroma r = r ≡ Refused n
-ByVerdict passes s f source luma chroma r = ByMatrix s (matrixOf (s .matrix)) f (picture (s .channels) (f .«source_stride») source) luma chroma r
+ByVerdict (Refuses n) s f source luma chroma r = r ≡ Refused n
+ByVerdict Passes s f source luma chroma r = ByMatrix s (matrixOf (s .matrix)) f (picture (s .channels) (f .«source_stride») source) luma chroma r
 
 -- THE PROMISE of check
 abbrev pub Answers : Settings → Frame → List ℕ → List ℕ → List ℕ → Checked → Type 0

@@ -2,6 +2,7 @@
 use Prim.Native.Nat.{ℕ, _/_}
 use mathlib.Core.Bool.{cond}
 use mathlib.Core.List.{List, _++_}
+use lib.ListN.{length}
 use Rattle.rules.specs.declared.Settings.{Settings}
 use Rattle.rules.specs.declared.Frame.{Frame}
 use Rattle.rules.specs.declared.Weights.{Weights}
@@ -16,7 +17,9 @@ use Rattle.rules.specs.Sample.{code}
 use Rattle.rules.specs.Blocks.{block, averaged, chromaWidth, chromaHeight}
 use Rattle.rules.specs.Storage.{word}
 use Rattle.rules.specs.Planes.{written}
-use Rattle.rules.specs.Refusals.{Verdict, passes, refuses, first}
+use Rattle.rules.specs.declared.Verdict.{Verdict}
+use Rattle.rules.specs.declared.Verdict.the-variants.{Passes, Refuses}
+use Rattle.rules.specs.Refusals.{first}
 use Rattle.rules.specs.Settle.{settleLines}
 use Rattle.rules.specs.Frames.{frameLines}
 
@@ -39,17 +42,17 @@ chromaWord s w width height px row element =
 
 -- "convert's says done and nothing more"
 abbrev pub answer : Verdict → Converted
-answer passes = Done
-answer (refuses r) = Refused r
+answer Passes = Done
+answer (Refuses r) = Refused r
 
 -- a refusal leaves a plane untouched
 abbrev pub kept : Verdict → List ℕ → List ℕ → List ℕ
-kept passes new old = new
-kept (refuses r) new old = old
+kept Passes new old = new
+kept (Refuses r) new old = old
 
 -- settle's refusals, then the frame's: the first that applies
 abbrev pub verdict : Settings → Frame → List ℕ → List ℕ → List ℕ → Verdict
-verdict s f source luma chroma = first (settleLines s ++ frameLines s f source luma chroma)
+verdict s f source luma chroma = first (settleLines s ++ frameLines s f source (length luma) (length chroma))
 
 -- the planes that a picture is written into, by given weights
 abbrev pub lumaWritten : Settings → Weights → Frame → Picture → List ℕ → List ℕ

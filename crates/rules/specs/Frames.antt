@@ -60,10 +60,11 @@ isFound (Found q) = true
 
 -- ---- the table's lines for a frame
 
-abbrev pub frameLines : Settings → Frame → List ℕ → List ℕ → List ℕ → List Line
+-- by the source and the lengths of the two planes
+abbrev pub frameLines : Settings → Frame → List ℕ → ℕ → ℕ → List Line
 frameLines s f source luma chroma =
     line Size (sizeOff f) ∷
     line Stride (strideOff s f) ∷
-    line Length (lengthOff s f (length source) (length luma) (length chroma)) ∷
+    line Length (lengthOff s f (length source) luma chroma) ∷
     line TooLarge (isFound (tooLargeAt (most (s .depth)) f (picture (s .channels) (f .«source_stride») source))) ∷
     []

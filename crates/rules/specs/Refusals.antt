@@ -3,6 +3,8 @@ use Prim.Native.Nat.{ℕ}
 use mathlib.Core.Bool.{Bool, true, false, not, _&&_}
 use mathlib.Core.List.{List, [], _∷_}
 use lib.Dec.{leb}
+use Rattle.rules.specs.declared.Verdict.{Verdict}
+use Rattle.rules.specs.declared.Verdict.the-variants.{Passes, Refuses}
 use Rattle.rules.specs.declared.Refusal.{Refusal}
 use Rattle.rules.specs.declared.Refusal.the-variants.{Depth, Precision, CustomPair, WeightOff, CodeOutside, CustomUnchecked, Size, Stride, Length, TooLarge}
 
@@ -30,16 +32,11 @@ pub record Line : Type 0 where
 abbrev pub line : Refusal → Bool → Line
 line r b = record { refusal = r; applies = b }
 
--- what a table says of an input: no line applies, or this refusal is given
-pub data Verdict : Type 0 where
-  passes : Verdict
-  refuses : Refusal → Verdict
-
 -- "given exactly when no earlier one applies and" its own test does
 abbrev pub pick : Refusal → Bool → Verdict → Verdict
-pick r true v = refuses r
+pick r true v = Refuses r
 pick r false v = v
 
 unfoldable pub first : List Line → Verdict
-first [] = passes
+first [] = Passes
 first (l ∷ ls) = pick (l .refusal) (l .applies) (first ls)

@@ -21,7 +21,9 @@ use Rattle.rules.specs.Ranges.{most, biasY, biasUV, rangeY, rangeUV}
 use Rattle.rules.specs.Matrices.{kg, matrixOf}
 use Rattle.rules.specs.Weights.{nought, rest, weightsOf, lumaRow, cbRow, crRow}
 use Rattle.rules.specs.Sample.{signedCode}
-use Rattle.rules.specs.Refusals.{outside, Line, line, Verdict, passes, refuses, first}
+use Rattle.rules.specs.declared.Verdict.{Verdict}
+use Rattle.rules.specs.declared.Verdict.the-variants.{Passes, Refuses}
+use Rattle.rules.specs.Refusals.{outside, Line, line, first}
 
 -- ---- 3: "custom pair: not (kr > 0 and kb > 0 and kg > 0, kg as worked out in f32); not-a-number counts as failing"
 
@@ -103,8 +105,8 @@ settleLines s =
 
 -- "A refusal returns its number only. Settle's success returns the nine integer weights"
 abbrev pub settled : Verdict → Weights → Settled
-settled passes w = Weighed w
-settled (refuses r) w = Refused r
+settled Passes w = Weighed w
+settled (Refuses r) w = Refused r
 
 unfoldable pub settle : Settings → Settled
 settle s = settled (first (settleLines s)) (weightsOf s)

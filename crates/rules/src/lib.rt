@@ -188,6 +188,12 @@ impl Refusal {
     }
 }
 
+// What a table of refusals says of an input: no line applies, or this refusal is given.
+pub enum Verdict {
+    Passes,
+    Refuses(Refusal),
+}
+
 // Where a colour sample of the source stands: rows and pixels count from 0; channel 0 is red, 1 green and 2 blue.
 pub struct SourcePlace {
     pub row: usize,

@@ -10,15 +10,17 @@ use Rattle.rules.specs.declared.Settled.the-variants.{Weighed, Refused}
 use Rattle.rules.specs.declared.Refusal.{Refusal}
 use Rattle.rules.specs.Matrices.{matrixOf}
 use Rattle.rules.specs.Weights.{weightsOf}
-use Rattle.rules.specs.Refusals.{Verdict, passes, refuses, first}
+use Rattle.rules.specs.declared.Verdict.{Verdict}
+use Rattle.rules.specs.declared.Verdict.the-variants.{Passes, Refuses}
+use Rattle.rules.specs.Refusals.{first}
 use Rattle.rules.specs.Settle.{pairOff, weightOff, someCodeOff, settleLines, settled, settle}
 use Rattle.rule_laws.proofs.Refusals as lines
 
-pub refused : (s : Settings) (r : Refusal) → first (settleLines s) ≡ refuses r → Refused r ≡ settle s
+pub refused : (s : Settings) (r : Refusal) → first (settleLines s) ≡ Refuses r → Refused r ≡ settle s
 unfolding settle
 refused s r e = ap (λ (v : Verdict). settled v (weightsOf s)) (sym e)
 
-pub weighed : (s : Settings) → first (settleLines s) ≡ passes → Weighed (weightsOf s) ≡ settle s
+pub weighed : (s : Settings) → first (settleLines s) ≡ Passes → Weighed (weightsOf s) ≡ settle s
 unfolding settle
 weighed s e = ap (λ (v : Verdict). settled v (weightsOf s)) (sym e)
 
@@ -32,9 +34,9 @@ pub record Passed (s : Settings) : Type 0 where
   pub near : weightOff s (matrixOf (s .matrix)) (weightsOf s) ≡ false
   pub codes : someCodeOff s (weightsOf s) ≡ false
 
-opened : (v : Verdict) (x w : Weights) → settled v x ≡ Weighed w → (v ≡ passes) × (x ≡ w)
-opened passes x w e = (refl, (cc))
-opened (refuses r) x w e = absurd (let z : _≡_ {A = ℕ} 0 1 = cc in omega arith)
+opened : (v : Verdict) (x w : Weights) → settled v x ≡ Weighed w → (v ≡ Passes) × (x ≡ w)
+opened Passes x w e = (refl, (cc))
+opened (Refuses r) x w e = absurd (let z : _≡_ {A = ℕ} 0 1 = cc in omega arith)
 
 pub passed : (s : Settings) (w : Weights) → settle s ≡ Weighed w → Passed s × (weightsOf s ≡ w)
 unfolding settle
