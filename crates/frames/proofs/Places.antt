@@ -1,0 +1,78 @@
+-- The places of a pixel's samples, and the pixels that a row part shows. Assumes nothing.
+use mathlib.Core.Path.{_≡_, sym, ap, _∙_, subst⁻¹}
+use mathlib.Core.List.{List}
+use Prim.Native.Nat.{ℕ, _+_, _-_, _*_, _≤_, _<_}
+use native.Mathlib.Nat.{add-assoc, add-sub-cancel-left, mul-le-mul}
+use native.Mathlib.Omega.{arith}
+use lib.Dec.{lit<, lit≤}
+use lib.ListN.{getD, take, drop, length-drop}
+use lib.Seq.{length-take-le, getD-take, getD-drop}
+use Rattle.rules.specs.declared.Settings.{Settings}
+use Rattle.rules.specs.declared.Frame.{Frame}
+use Rattle.rules.specs.declared.Pixel.{Pixel}
+use Rattle.rules.specs.declared.YuvSourceChannels.{YuvSourceChannels}
+use Rattle.rules.specs.declared.YuvSourceChannels.the-variants.{Rgb, Rgba, Bgra, Bgr}
+use Rattle.rules.specs.Ranges.{most}
+use Rattle.rules.specs.Channels.{count, redAt, greenAt, blueAt, pixelAt, picture}
+use Rattle.rule_laws.specs.Codes.{Low}
+use Rattle.plane_laws.proofs.Tables.{step-le}
+use Rattle.frames.specs.Rows.{Shows, Part}
+use Rattle.frames.specs.Tests.{Sized, Ready}
+
+pub record Places (c : YuvSourceChannels) : Type 0 where
+  pub red : redAt c < count c
+  pub green : greenAt c < count c
+  pub blue : blueAt c < count c
+  pub most : count c ≤ 4
+
+pub places : (c : YuvSourceChannels) → Places c
+places Rgb = record { red = lit< tt; green = lit< tt; blue = lit< tt; most = lit≤ tt }
+places Rgba = record { red = lit< tt; green = lit< tt; blue = lit< tt; most = lit≤ tt }
+places Bgra = record { red = lit< tt; green = lit< tt; blue = lit< tt; most = lit≤ tt }
+places Bgr = record { red = lit< tt; green = lit< tt; blue = lit< tt; most = lit≤ tt }
+
+-- a row of the greatest width
+pub row-small : (f : Frame) (c : YuvSourceChannels) → Sized f → f .width * count c ≤ 65536
+row-small f c h = mul-le-mul (h .narrow) (places c .most)
+
+-- the pixel by places that were worked out
+pub same-pixel : (c : YuvSourceChannels) (source : List ℕ) (at : ℕ) {i j k : ℕ} → i ≡ redAt c → j ≡ greenAt c → k ≡ blueAt c
+    → _≡_ {A = Pixel} (record { red = getD source (at + i) 0; green = getD source (at + j) 0; blue = getD source (at + k) 0 }) (pixelAt c source at)
+same-pixel c source at p q r = λ z. record { red = getD source (at + p z) 0; green = getD source (at + q z) 0; blue = getD source (at + r z) 0 }
+
+-- the pixel of a part is the pixel of the whole
+pixel-part : (c : YuvSourceChannels) (source : List ℕ) (a n at : ℕ) → at + count c ≤ n → pixelAt c (take n (drop a source)) at ≡ pixelAt c source (a + at)
+pixel-part c source a n at h =
+    λ j. record { red = one (redAt c) (places c .red) j; green = one (greenAt c) (places c .green) j; blue = one (blueAt c) (places c .blue) j }
+  where
+    one : (k : ℕ) → k < count c → getD (take n (drop a source)) (at + k) 0 ≡ getD source (a + at + k) 0
+    one k b =
+        getD-take n (drop a source) (at + k) 0 (omega arith)
+        ∙ getD-drop a source (at + k) 0
+        ∙ ap (λ (m : ℕ). getD source m 0) (sym (add-assoc a at k))
+
+-- a part that starts at row × stride shows that row of the source's picture
+pub part-shows : (c : YuvSourceChannels) (source : List ℕ) (stride width row n : ℕ) → width * count c ≤ n
+    → Shows c (take n (drop (row * stride) source)) (picture c stride source) row width
+part-shows c source stride width row n h =
+    record { same = λ x l. pixel-part c source (row * stride) n (x * count c) (step-le x width (count c) n l h) }
+
+-- a part that ends with the visible row is as long as it, by a count of channels that was worked out
+pub visible-long : (a width : ℕ) (c : YuvSourceChannels) {k : ℕ} → k ≡ count c → a + width * k - a ≡ width * count c
+visible-long a width c {k} e = add-sub-cancel-left a (width * k) ∙ ap (λ (n : ℕ). width * n) e
+
+-- a row part of a source that is ready
+module _ (s : Settings) (f : Frame) (source : List ℕ) (luma chroma : ℕ) (ready : Ready s f source luma chroma) (row n : ℕ) (within : row < f .height)
+    (exact : n ≡ f .width * count (s .channels)) where
+  pub shows : Shows (s .channels) (take n (drop (row * f .«source_stride») source)) (picture (s .channels) (f .«source_stride») source) row (f .width)
+  shows = part-shows (s .channels) source (f .«source_stride») (f .width) row n (omega arith)
+
+  pub part : Part s (f .width) (take n (drop (row * f .«source_stride») source))
+  part =
+      let fits = ready .laid .source .fits row within in
+      let rest = length-drop (row * f .«source_stride») source in
+      let long = length-take-le n (drop (row * f .«source_stride») source) (omega arith) in
+      record {
+        long = omega arith;
+        low = record { low = λ x b. subst⁻¹ (Low (most (s .depth))) (shows .same x b) (ready .low .low row within .low x b) };
+      }

@@ -1,0 +1,89 @@
+// Refusal 10: the first visible colour sample that exceeds m, row by row, pixel by pixel, red before green before blue.
+ghost use mathlib.Core.Path.{_≡_};
+ghost use Prim.Native.Nat.{_*_, _≤_};
+ghost use lib.ListN.{length};
+ghost use Rattle.rules.specs.Channels.{count, picture};
+ghost use Rattle.rules.specs.Frames.{place, firstBelow, highAt, tooLargeAt, isFound};
+ghost use Rattle.frames.specs.Rows.{rowPixel, Rows};
+ghost use Rattle.frames.specs.Tests.{Sized};
+use crate::channels;
+use rules::Frame;
+use rules::Pixel;
+use rules::Search;
+use rules::SourcePlace;
+use rules::YuvSourceChannels;
+use yuv_support::channels::get_channels_count;
+
+pub fn is_found(s: Search) -> bool
+    ensures { λ r. ⌜ r ≡ isFound s ⌝ }
+{
+    match s {
+        Search::Nothing => false,
+        Search::Found(q) => true,
+    }
+}
+
+fn place(row: usize, pixel: usize, channel: usize) -> Search
+    ensures { λ r. ⌜ r ≡ place row pixel channel ⌝ }
+{
+    Search::Found(SourcePlace {
+        row,
+        pixel,
+        channel,
+    })
+}
+
+// The first channel of a pixel that exceeds m.
+fn high_at(m: u16, row: usize, pixel: usize, p: Pixel) -> Search
+    ensures { λ r. ⌜ r ≡ highAt m row pixel p ⌝ }
+{
+    if m < p.red {
+        return place(row, pixel, 0);
+    }
+    if m < p.green {
+        return place(row, pixel, 1);
+    }
+    if m < p.blue {
+        return place(row, pixel, 2);
+    }
+    Search::Nothing
+}
+
+// The first place in a row, by a row part that shows it.
+fn row_high(m: u16, channels: YuvSourceChannels, width: usize, row: usize, part: &[u16]) -> Search
+    requires { ⌜ width * count channels ≤ length (now part) ⌝ }
+    ensures { λ r. ⌜ r ≡ firstBelow width (λ x. highAt m row x (rowPixel channels (now (part .entry)) x)) ⌝ }
+{
+    let mut x = 0;
+    while x < width {
+        let p = channels::row_pixel(channels, part, width, x);
+        let found = high_at(m, row, x, p);
+        if is_found(found) {
+            return found;
+        }
+        x += 1;
+    }
+    Search::Nothing
+}
+
+// 10
+pub fn too_large(m: u16, channels: YuvSourceChannels, f: Frame, source: &[u16]) -> Search
+    requires { ⌜ Sized f ⌝ }
+    requires { ⌜ Rows (length (now source)) (f .«source_stride») (f .width * count channels) (f .height) ⌝ }
+    ensures { λ r. ⌜ r ≡ tooLargeAt m f (picture channels (f .«source_stride») (now (source .entry))) ⌝ }
+{
+    let width = f.width;
+    let height = f.height;
+    let n = width * get_channels_count(channels);
+    let mut row = 0;
+    while row < height {
+        let a = row * f.source_stride;
+        let b = a + n;
+        let found = row_high(m, channels, width, row, &source[a..b]);
+        if is_found(found) {
+            return found;
+        }
+        row += 1;
+    }
+    Search::Nothing
+}

@@ -1,0 +1,5 @@
+pub mod Tests
+pub mod Tables
+pub mod Planes
+pub mod Firsts
+pub mod Verdicts

@@ -1,0 +1,4 @@
+pub mod Tiles
+pub mod Turns
+pub mod Verdicts
+pub mod Outcomes

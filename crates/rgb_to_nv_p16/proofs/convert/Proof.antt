@@ -1,0 +1,49 @@
+-- `rgb_to_nv_p16::convert` meets its contract, for every input. Assumes nothing.
+use borrow.Author.Needs.{needs}
+use mathlib.Core.Path.{sym, _∙_, subst}
+use Rattle.settle.specs.Promised.{Promised}
+use Rattle.rgb_to_nv_p16.proofs.Verdicts.{refused, weighed}
+use Rattle.rgb_to_nv_p16.proofs.convert.Statement.{statement}
+use Rattle.rgb_to_nv_p16.proofs.convert.Tie as tie
+
+settle-requires : tie.Need-settle-requires
+settle-requires c κs = search needs
+
+enum-known-settled : tie.Need-enum-known-settled
+enum-known-settled c = search needs
+
+enum-known-settled-2 : tie.Need-enum-known-settled-2
+enum-known-settled-2 c = search needs
+
+convert-settled-requires : tie.Need-convert-settled-requires
+convert-settled-requires c κs = subst (Promised (c .before .before .before .before .before .before .before .before .before .args .s)) (c .before .before .before .settled2 .given .1) (c .before .before .before .before .before .settle .ensures .1)
+
+returns : tie.Need-returns
+returns c =
+    let v = c .before .before .before .before .before .before .before .args in
+    refused (v .s) (v .f) (v .source .now) (v .luma .now) (v .chroma .now) _ (sym (c .before .before .before .settle .ensures .0) ∙ c .before .settled .given .1)
+
+same-length : tie.Need-same-length
+same-length c = search needs
+
+same-length-2 : tie.Need-same-length-2
+same-length-2 c = search needs
+
+returns-2 : tie.Need-returns-2
+returns-2 c =
+    let v = c .before .before .before .before .before .before .before .before .before .before .before .before .before .before .args in
+    let e = c .before .before .before .before .convert-settled .ensures in
+    weighed (v .s) (v .f) (v .source .now) (v .luma .now) (v .chroma .now) _ (sym (c .before .before .before .before .before .before .before .before .before .before .settle .ensures .0) ∙ c .before .before .before .before .before .before .before .before .settled2 .given .1) (e .0) (e .1 .0) (e .1 .1)
+
+pub convert-spec : {M : Type 1} → statement M
+convert-spec =
+    tie.close
+    (tie.spec
+    settle-requires
+    enum-known-settled
+    enum-known-settled-2
+    convert-settled-requires
+    returns
+    same-length
+    same-length-2
+    returns-2)

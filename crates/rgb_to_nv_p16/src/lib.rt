@@ -1,0 +1,69 @@
+// A frame of RGB samples converted to a luma plane and a chroma plane, or refused with both planes as they were.
+ghost use mathlib.Core.Path.{_≡_};
+ghost use lib.ListN.{length};
+ghost use Rattle.rules.specs.Channels.{picture};
+ghost use Rattle.rules.specs.Refusals.{first};
+ghost use Rattle.rules.specs.Frames.{frameLines};
+ghost use Rattle.rules.specs.Convert.{answer, kept, lumaWritten, chromaWritten, convert, lumaAfter, chromaAfter};
+ghost use Rattle.rule_laws.specs.Usable.{Usable};
+
+mod chroma;
+mod frame;
+mod luma;
+mod rows;
+
+use frames::refusals;
+use rules::Converted;
+use rules::Frame;
+use rules::Settings;
+use rules::Settled;
+use rules::Verdict;
+use rules::Weights;
+use settle::settle;
+
+fn answer_of(verdict: Verdict) -> Converted
+    ensures { λ r. ⌜ r ≡ answer verdict ⌝ }
+{
+    match verdict {
+        Verdict::Passes => Converted::Done,
+        Verdict::Refuses(r) => Converted::Refused(r),
+    }
+}
+
+// Converts a frame by settled weights, or refuses it.
+fn convert_settled(
+    s: Settings,
+    w: Weights,
+    f: Frame,
+    source: &[u16],
+    luma: &mut [u16],
+    chroma: &mut [u16],
+) -> Converted
+    requires { ⌜ Usable s w ⌝ }
+    ensures { λ r. ⌜ r ≡ answer (first (frameLines s f (now (source .entry)) (length (now (luma .entry))) (length (now (chroma .entry))))) ⌝ }
+    ensures { λ r. ⌜ now (luma .exit) ≡ kept (first (frameLines s f (now (source .entry)) (length (now (luma .entry))) (length (now (chroma .entry))))) (lumaWritten s w f (picture (s .channels) (f .«source_stride») (now (source .entry))) (now (luma .entry))) (now (luma .entry)) ⌝ }
+    ensures { λ r. ⌜ now (chroma .exit) ≡ kept (first (frameLines s f (now (source .entry)) (length (now (luma .entry))) (length (now (chroma .entry))))) (chromaWritten s w f (picture (s .channels) (f .«source_stride») (now (source .entry))) (now (chroma .entry))) (now (chroma .entry)) ⌝ }
+{
+    let verdict = refusals::judge(s, f, source, luma.len(), chroma.len());
+    frame::write_planes(verdict, s, w, f, source, luma, chroma);
+    answer_of(verdict)
+}
+
+// Settles the settings, then converts the frame: the first refusal that applies, or both planes written.
+pub fn convert(
+    s: Settings,
+    f: Frame,
+    source: &[u16],
+    luma: &mut [u16],
+    chroma: &mut [u16],
+) -> Converted
+    ensures answer { λ r. ⌜ r ≡ convert s f (now (source .entry)) (now (luma .entry)) (now (chroma .entry)) ⌝ }
+    ensures luma { λ r. ⌜ now (luma .exit) ≡ lumaAfter s f (now (source .entry)) (now (luma .entry)) (now (chroma .entry)) ⌝ }
+    ensures chroma { λ r. ⌜ now (chroma .exit) ≡ chromaAfter s f (now (source .entry)) (now (luma .entry)) (now (chroma .entry)) ⌝ }
+{
+    let settled = settle(s);
+    match settled {
+        Settled::Refused(r) => Converted::Refused(r),
+        Settled::Weighed(w) => convert_settled(s, w, f, source, luma, chroma),
+    }
+}

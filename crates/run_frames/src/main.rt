@@ -1,0 +1,324 @@
+// Converts frames and prints each case with its answer and both planes; compare/frames.py works every line out afresh.
+ghost use Prim.Native.Nat.{_≤_, _<_};
+use planes::Case;
+
+mod planes;
+
+// J of document 01 at 4:2:0, RGB, UV, least-significant, little endian, with its 3×1 frame.
+fn base() -> Case {
+    Case {
+        depth: 10,
+        precision: 13,
+        matrix: 0,
+        range: 1,
+        subsampling: 0,
+        order: 0,
+        packing: 1,
+        endianness: 1,
+        channels: 0,
+        width: 3,
+        height: 1,
+        source_stride: 9,
+        luma_stride: 4,
+        chroma_stride: 6,
+        source: 9,
+        luma: 4,
+        chroma: 6,
+        seed: 0,
+        at: 65540,
+        sample: 0,
+    }
+}
+
+fn count_of(channels: u32) -> usize
+    ensures { λ r. ⌜ r ≤ 4 ⌝ }
+{
+    match channels {
+        0 => 3,
+        1 => 4,
+        2 => 4,
+        _ => 3,
+    }
+}
+
+fn chroma_width(subsampling: u32, width: usize) -> usize
+    requires { ⌜ width ≤ 20000 ⌝ }
+    ensures { λ r. ⌜ r ≤ 40002 ⌝ }
+{
+    if subsampling == 2 {
+        2 * width
+    } else {
+        (width + 1) / 2 * 2
+    }
+}
+
+fn chroma_height(subsampling: u32, height: usize) -> usize
+    requires { ⌜ height ≤ 20000 ⌝ }
+    ensures { λ r. ⌜ r ≤ 20001 ⌝ }
+{
+    if subsampling == 0 {
+        (height + 1) / 2
+    } else {
+        height
+    }
+}
+
+// The length of rows of a stride.
+fn area(a: usize, b: usize) -> usize
+    requires { ⌜ (a ≤ 100000) × (b ≤ 100000) ⌝ }
+{
+    a * b
+}
+
+// Strides with some padding and exact lengths for a size.
+fn laid(c: Case, width: usize, height: usize, pad: usize) -> Case
+    requires { ⌜ (width ≤ 20000) × (height ≤ 20000) × (pad ≤ 9) ⌝ }
+{
+    let mut d = c;
+    d.width = width;
+    d.height = height;
+    d.source_stride = width * count_of(c.channels) + pad;
+    d.luma_stride = width + pad;
+    d.chroma_stride = chroma_width(c.subsampling, width) + pad;
+    d.source = area(d.source_stride, height);
+    d.luma = area(d.luma_stride, height);
+    d.chroma = area(d.chroma_stride, chroma_height(c.subsampling, height));
+    d
+}
+
+// Document 01's whole frames: 3×1 and 3×2.
+fn whole_frames() {
+    let c = base();
+    planes::run(c);
+    let mut d = c;
+    d.height = 2;
+    d.source = 18;
+    d.luma = 8;
+    planes::run(d);
+}
+
+fn run_laid(subsampling: u32, width: usize, height: usize, pad: usize)
+    requires { ⌜ (width ≤ 20000) × (height ≤ 20000) × (pad ≤ 9) ⌝ }
+{
+    let mut c = base();
+    c.subsampling = subsampling;
+    c.seed = 1;
+    planes::run(laid(c, width, height, pad));
+}
+
+// Both sides of the limits of a size, and the largest number.
+fn sizes() {
+    run_laid(0, 0, 1, 0);
+    run_laid(0, 1, 0, 0);
+    run_laid(0, 0, 0, 0);
+    run_laid(0, 1, 1, 0);
+    run_laid(0, 16384, 1, 0);
+    run_laid(1, 16384, 1, 0);
+    run_laid(2, 16384, 1, 0);
+    run_laid(0, 16385, 1, 0);
+    run_laid(0, 1, 16384, 0);
+    run_laid(1, 1, 16384, 0);
+    run_laid(2, 1, 16384, 0);
+    run_laid(0, 1, 16385, 0);
+    let mut c = base();
+    c.width = 18446744073709551615;
+    planes::run(c);
+    let mut d = base();
+    d.height = 18446744073709551615;
+    planes::run(d);
+}
+
+fn run_source_stride(stride: usize, length: usize) {
+    let mut c = base();
+    c.source_stride = stride;
+    c.source = length;
+    planes::run(c);
+}
+
+fn run_luma_stride(stride: usize, length: usize) {
+    let mut c = base();
+    c.luma_stride = stride;
+    c.luma = length;
+    planes::run(c);
+}
+
+fn run_chroma_stride(stride: usize, length: usize) {
+    let mut c = base();
+    c.chroma_stride = stride;
+    c.chroma = length;
+    planes::run(c);
+}
+
+// Each stride one short, as short as it may be, at 65,536, one over it, and the largest number.
+fn strides() {
+    run_source_stride(8, 8);
+    run_source_stride(9, 9);
+    run_source_stride(65536, 65536);
+    run_source_stride(65537, 65537);
+    run_source_stride(18446744073709551615, 9);
+    run_luma_stride(2, 2);
+    run_luma_stride(3, 3);
+    run_luma_stride(65536, 65536);
+    run_luma_stride(65537, 65537);
+    run_luma_stride(18446744073709551615, 4);
+    run_chroma_stride(3, 3);
+    run_chroma_stride(4, 4);
+    run_chroma_stride(65536, 65536);
+    run_chroma_stride(65537, 65537);
+    run_chroma_stride(18446744073709551615, 6);
+}
+
+// Each length one short and one long, and each buffer empty.
+fn lengths() {
+    run_source_stride(9, 8);
+    run_source_stride(9, 10);
+    run_source_stride(9, 0);
+    run_luma_stride(4, 3);
+    run_luma_stride(4, 5);
+    run_luma_stride(4, 0);
+    run_chroma_stride(6, 5);
+    run_chroma_stride(6, 7);
+    run_chroma_stride(6, 0);
+}
+
+// A sample put at an index of a 3×2 frame with one element of padding in each row.
+fn run_sample(channels: u32, at: usize, sample: u16) {
+    let mut c = base();
+    c.channels = channels;
+    c.seed = 5;
+    let mut d = laid(c, 3, 2, 1);
+    d.at = at;
+    d.sample = sample;
+    planes::run(d);
+}
+
+// m and m + 1 in each channel of the first and of the last visible pixel; then in padding and in alpha, where it does not matter.
+fn samples() {
+    run_sample(0, 0, 1023);
+    run_sample(0, 0, 1024);
+    run_sample(0, 1, 1024);
+    run_sample(0, 2, 1024);
+    run_sample(0, 16, 1023);
+    run_sample(0, 16, 1024);
+    run_sample(0, 17, 1024);
+    run_sample(0, 18, 1024);
+    run_sample(3, 2, 1024);
+    run_sample(1, 21, 1023);
+    run_sample(1, 21, 1024);
+    run_sample(0, 9, 65535);
+    run_sample(0, 19, 65535);
+    run_sample(1, 3, 65535);
+    run_sample(1, 24, 65535);
+    run_sample(2, 3, 65535);
+    run_sample(2, 12, 65535);
+}
+
+fn run_settings(depth: u32, precision: u32, matrix: u32, width: usize) {
+    let mut c = base();
+    c.depth = depth;
+    c.precision = precision;
+    c.matrix = matrix;
+    c.width = width;
+    planes::run(c);
+}
+
+// Settings that are refused, alone and with a size of 0; then each refusal of a frame with the next one.
+fn orders() {
+    run_settings(9, 13, 0, 3);
+    run_settings(17, 14, 0, 0);
+    run_settings(10, 0, 0, 3);
+    run_settings(10, 14, 6, 0);
+    run_settings(10, 13, 6, 0);
+    run_settings(12, 13, 3, 3);
+    run_settings(13, 13, 3, 0);
+    run_settings(10, 13, 5, 3);
+    run_settings(10, 13, 5, 0);
+    let mut c = base();
+    c.width = 0;
+    c.source_stride = 65537;
+    planes::run(c);
+    let mut d = base();
+    d.luma_stride = 2;
+    d.source = 8;
+    planes::run(d);
+    let mut e = base();
+    e.chroma = 5;
+    e.at = 0;
+    e.sample = 1024;
+    planes::run(e);
+}
+
+// Every subsampling at sizes from 1×1 to 5×5, the other settings changing from frame to frame.
+fn run_size(t: usize)
+    requires { ⌜ t < 75 ⌝ }
+{
+    let mut c = base();
+    c.depth = 10 + (t % 7) as u32;
+    c.matrix = (t % 6) as u32;
+    c.range = (t / 2 % 2) as u32;
+    c.subsampling = (t / 25) as u32;
+    c.order = (t / 3 % 2) as u32;
+    c.packing = (t / 4 % 2) as u32;
+    c.endianness = (t / 5 % 2) as u32;
+    c.channels = (t % 4) as u32;
+    c.seed = (t + 10) as u32;
+    planes::run(laid(c, 1 + t % 5, 1 + t / 5 % 5, t % 3));
+}
+
+fn sweep_sizes() {
+    for t in 0..75 {
+        run_size(t);
+    }
+}
+
+// Every range, subsampling, order, packing, byte order and channel layout, at 3×3.
+fn run_layout(t: usize)
+    requires { ⌜ t < 192 ⌝ }
+{
+    let mut c = base();
+    c.range = (t % 2) as u32;
+    c.order = (t / 2 % 2) as u32;
+    c.packing = (t / 4 % 2) as u32;
+    c.endianness = (t / 8 % 2) as u32;
+    c.channels = (t / 16 % 4) as u32;
+    c.subsampling = (t / 64) as u32;
+    c.seed = (t + 100) as u32;
+    planes::run(laid(c, 3, 3, 1));
+}
+
+fn sweep_layouts() {
+    for t in 0..192 {
+        run_layout(t);
+    }
+}
+
+// Every depth, precision and range, at 2×2.
+fn run_depth(t: usize)
+    requires { ⌜ t < 182 ⌝ }
+{
+    let mut c = base();
+    c.depth = 10 + (t % 7) as u32;
+    c.precision = 1 + (t / 7 % 13) as u32;
+    c.range = (t / 91) as u32;
+    c.matrix = 1;
+    c.seed = (t + 300) as u32;
+    planes::run(laid(c, 2, 2, 0));
+}
+
+fn sweep_depths() {
+    for t in 0..182 {
+        run_depth(t);
+    }
+}
+
+fn main() {
+    whole_frames();
+    sizes();
+    strides();
+    lengths();
+    samples();
+    orders();
+    sweep_sizes();
+    sweep_layouts();
+    sweep_depths();
+}
