@@ -6,23 +6,19 @@ use Prim.Native.Nat.{ℕ, zero, suc, _+_, _≤_, _<_}
 use native.Mathlib.Nat.{eq-or-lt-of-le}
 use native.Mathlib.Omega.{arith}
 use Rattle.rules.specs.declared.Settings.{Settings}
-use Rattle.rules.specs.declared.Weights.{Weights}
 use Rattle.rules.specs.declared.Named.{Named}
 use Rattle.rules.specs.declared.Matrix.{Matrix}
 use Rattle.rules.specs.declared.Matrix.the-variants.{Tabled, Own}
 use Rattle.rules.specs.declared.YuvRange.{YuvRange}
 use Rattle.rules.specs.declared.YuvRange.the-variants.{Limited, Full}
 use Rattle.rules.specs.declared.Settled.the-variants.{Refused}
-use Rattle.rules.specs.declared.Refusal.{Refusal}
 use Rattle.rules.specs.declared.Refusal.the-variants.{WeightOff}
 use Rattle.rules.specs.Ranges.{most, rangeY, rangeUV}
 use Rattle.rules.specs.Matrices.{matrixOf}
 use Rattle.rules.specs.Weights.{pairOf, forward, integers, weightsOf}
-use Rattle.rules.specs.declared.Verdict.{Verdict}
-use Rattle.rules.specs.declared.Verdict.the-variants.{Passes, Refuses}
-use Rattle.rules.specs.Refusals.{first}
-use Rattle.rules.specs.Settle.{allNear, weightOff, settleLines, settled, settle}
+use Rattle.rules.specs.Settle.{allNear, weightOff, settle}
 use Rattle.rule_laws.proofs.Refusals.{skip, reached, ended, bounds}
+use Rattle.rule_laws.proofs.Settling.{refused-refuses}
 use Rattle.named_settings.proofs.Computed.{ranged, all, rowWeights, one, both, every, RowPasses, passes}
 
 both-true : (x y : Bool) → x && y ≡ true → (x ≡ true) × (y ≡ true)
@@ -65,15 +61,10 @@ module _ (s : Settings) (shallow : 10 ≤ s .depth) (deep : s .depth ≤ 16) (co
   unfolding weightsOf
   not-off = by-matrix (matrixOf (s .matrix)) (passes (s .matrix))
 
-opened : (v : Verdict) (w : Weights) (r : Refusal) → settled v w ≡ Refused r → v ≡ Refuses r
-opened Passes w r e = absurd (let z : _≡_ {A = ℕ} 0 1 = cc in omega arith)
-opened (Refuses q) w r e = let h : q ≡ r = cc in ap Refuses h
-
 -- THE THEOREM: no settings, and so no named ones, get refusal 4
 pub never : (s : Settings) → settle s ≡ Refused WeightOff → ⊥
-unfolding settle
 never s e =
-    let l1 = reached _ _ WeightOff refl (opened (first (settleLines s)) (weightsOf s) WeightOff e) in
+    let l1 = reached _ _ WeightOff refl (refused-refuses s WeightOff e) in
     let l2 = reached _ _ WeightOff refl (l1 .1) in
     let l3 = reached _ _ WeightOff refl (l2 .1) in
     let d = bounds 10 16 (s .depth) (l1 .0) in

@@ -2,4 +2,3 @@ pub mod Tests
 pub mod Tables
 pub mod Planes
 pub mod Firsts
-pub mod Verdicts

@@ -1,7 +1,7 @@
 -- THE THEOREMS of convert: one outcome for each input, and neither alpha nor the source's padding has a say. Assumes nothing.
 use mathlib.Core.Path.{_≡_, sym, ap, _∙_}
 use mathlib.Core.List.{List, [], _∷_, _++_}
-use Prim.Native.Nat.{ℕ, _<_}
+use Prim.Native.Nat.{ℕ}
 use lib.ListN.{length}
 use Rattle.rules.specs.declared.Settings.{Settings}
 use Rattle.rules.specs.declared.Weights.{Weights}
@@ -19,7 +19,7 @@ use Rattle.rules.specs.Frames.{sizeOff, strideOff, lengthOff, highAt, tooLargeA
 use Rattle.rules.specs.Convert.{wordOf, lumaWord, chromaWord, answer, kept, verdict, lumaWritten, chromaWritten, convert, lumaAfter, chromaAfter}
 use Rattle.plane_laws.proofs.Planes.{written-ext}
 use Rattle.plane_laws.proofs.Firsts.{first-ext}
-use Rattle.rgb_to_nv_p16.specs.Outcomes.{Admitted, SameColours}
+use Rattle.rgb_to_nv_p16.specs.Outcomes.{Admitted, SameColours, SamePicture}
 use Rattle.rgb_to_nv_p16.proofs.Tiles.{chroma-ext}
 
 -- any two outcomes that convert's contract admits for one input are equal
@@ -29,9 +29,6 @@ one-outcome s f source luma chroma a a′ l l′ c c′ p q =
     (p .answer-is ∙ sym (q .answer-is), p .luma-is ∙ sym (q .luma-is), p .chroma-is ∙ sym (q .chroma-is))
 
 -- ---- pictures that agree on the visible pixels
-pub record SamePicture (width height : ℕ) (px px′ : Picture) : Type 0 where
-  pub same : (row x : ℕ) → row < height → x < width → px row x ≡ px′ row x
-
 pub pictures : (c : YuvSourceChannels) (f : Frame) (a b : List ℕ) → SameColours c f a b → SamePicture (f .width) (f .height) (picture c (f .«source_stride») a) (picture c (f .«source_stride») b)
 pictures c f a b h =
     record { same = λ row x p q. λ i. record { red = h .red row x p q i; green = h .green row x p q i; blue = h .blue row x p q i } }

@@ -1,9 +1,8 @@
 -- What convert is to answer and to leave in the planes, by settle's answer and the frame's lines. Assumes nothing.
-use mathlib.Core.Path.{_≡_, refl, sym, ap, _∙_}
+use mathlib.Core.Path.{_≡_, sym, ap, _∙_}
 use mathlib.Core.List.{List}
 use Prim.Native.Nat.{ℕ}
 use lib.ListN.{length}
-use native.Mathlib.Omega.{arith}
 use Rattle.rules.specs.declared.Settings.{Settings}
 use Rattle.rules.specs.declared.Weights.{Weights}
 use Rattle.rules.specs.declared.Frame.{Frame}
@@ -15,10 +14,11 @@ use Rattle.rules.specs.Weights.{weightsOf}
 use Rattle.rules.specs.declared.Verdict.{Verdict}
 use Rattle.rules.specs.declared.Verdict.the-variants.{Passes, Refuses}
 use Rattle.rules.specs.Refusals.{first}
-use Rattle.rules.specs.Settle.{settleLines, settled, settle}
+use Rattle.rules.specs.Settle.{settleLines, settle}
 use Rattle.rules.specs.Frames.{frameLines}
 use Rattle.rules.specs.Convert.{answer, kept, verdict, lumaWritten, chromaWritten, convert, lumaAfter, chromaAfter}
-use Rattle.plane_laws.proofs.Verdicts.{passed-on, refused-before}
+use Rattle.rule_laws.proofs.Refusals.{passed-on, refused-before}
+use Rattle.rule_laws.proofs.Settling.{weighed-passes, refused-refuses}
 
 -- ---- a plane, by a verdict that is known
 
@@ -29,15 +29,6 @@ pub left : {v : Verdict} {r : Refusal} (new old : List ℕ) → v ≡ Refuses r 
 left new old e = sym (ap (λ (x : Verdict). kept x new old) e)
 
 -- ---- the whole outcome
-
--- settle's answer against its verdict
-opened : (v : Verdict) (x w : Weights) → settled v x ≡ Weighed w → (v ≡ Passes) × (x ≡ w)
-opened Passes x w e = (refl, (cc))
-opened (Refuses r) x w e = absurd (let z : _≡_ {A = ℕ} 0 1 = cc in omega arith)
-
-closed : (v : Verdict) (x : Weights) (r : Refusal) → settled v x ≡ Refused r → v ≡ Refuses r
-closed Passes x r e = absurd (let z : _≡_ {A = ℕ} 0 1 = cc in omega arith)
-closed (Refuses q) x r e = let h : q ≡ r = cc in ap Refuses h
 
 module _ (s : Settings) (f : Frame) (source luma chroma : List ℕ) where
   abbrev lumaBy : Weights → List ℕ
@@ -59,13 +50,13 @@ module _ (s : Settings) (f : Frame) (source luma chroma : List ℕ) where
   pub refused : (r : Refusal) → settle s ≡ Refused r
       → (answer (Refuses r) ≡ convert s f source luma chroma) × ((luma ≡ lumaAfter s f source luma chroma) × (chroma ≡ chromaAfter s f source luma chroma))
   unfolding settle
-  refused r e = by-verdict (Refuses r) (refused-before (settleLines s) (frameLines s f source (length luma) (length chroma)) r (closed (first (settleLines s)) (weightsOf s) r e))
+  refused r e = by-verdict (Refuses r) (refused-before (settleLines s) (frameLines s f source (length luma) (length chroma)) r (refused-refuses s r e))
 
   -- settle hands out weights: the frame's lines decide
   pub weighed : (w : Weights) → settle s ≡ Weighed w → {a : Converted} {l c : List ℕ} → a ≡ answer framed → l ≡ kept framed (lumaBy w) luma → c ≡ kept framed (chromaBy w) chroma
       → (a ≡ convert s f source luma chroma) × ((l ≡ lumaAfter s f source luma chroma) × (c ≡ chromaAfter s f source luma chroma))
   unfolding settle
   weighed w e p q r =
-      let o = opened (first (settleLines s)) (weightsOf s) w e in
+      let o = weighed-passes s w e in
       let g = by-verdict framed (passed-on (settleLines s) (frameLines s f source (length luma) (length chroma)) (o .0)) in
       (p ∙ g .0, (q ∙ ap (λ (x : Weights). kept framed (lumaBy x) luma) (sym (o .1)) ∙ g .1 .0, r ∙ ap (λ (x : Weights). kept framed (chromaBy x) chroma) (sym (o .1)) ∙ g .1 .1))

@@ -7,7 +7,7 @@ use Rattle.rules.specs.declared.Settings.{Settings}
 use Rattle.rules.specs.declared.Frame.{Frame}
 use Rattle.rules.specs.declared.Converted.{Converted}
 use Rattle.rules.specs.declared.YuvSourceChannels.{YuvSourceChannels}
-use Rattle.rules.specs.Channels.{count, redAt, greenAt, blueAt}
+use Rattle.rules.specs.Channels.{Picture, count, redAt, greenAt, blueAt}
 use Rattle.rules.specs.Convert.{convert, lumaAfter, chromaAfter}
 
 -- an answer and two planes that convert's contract admits for an input
@@ -28,3 +28,7 @@ pub record SameColours (c : YuvSourceChannels) (f : Frame) (a b : List ℕ) : Ty
   pub red : SameAt c f (redAt c) a b
   pub green : SameAt c f (greenAt c) a b
   pub blue : SameAt c f (blueAt c) a b
+
+-- pictures that agree on the visible pixels
+pub record SamePicture (width height : ℕ) (px px′ : Picture) : Type 0 where
+  pub same : (row x : ℕ) → row < height → x < width → px row x ≡ px′ row x

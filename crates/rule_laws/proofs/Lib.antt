@@ -2,3 +2,4 @@ pub mod Refusals
 pub mod Depths
 pub mod Order
 pub mod Extremes
+pub mod Settling

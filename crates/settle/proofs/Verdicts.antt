@@ -1,8 +1,7 @@
 -- Settle's answer by the lines of its table, and what success says of each line. Assumes nothing.
-use mathlib.Core.Path.{_≡_, refl, sym, ap, _∙_}
+use mathlib.Core.Path.{_≡_, sym, ap, _∙_}
 use mathlib.Core.Bool.{false}
-use Prim.Native.Nat.{ℕ, _≤_}
-use native.Mathlib.Omega.{arith}
+use Prim.Native.Nat.{_≤_}
 use Rattle.rules.specs.declared.Settings.{Settings}
 use Rattle.rules.specs.declared.Weights.{Weights}
 use Rattle.rules.specs.declared.Settled.{Settled}
@@ -15,6 +14,7 @@ use Rattle.rules.specs.declared.Verdict.the-variants.{Passes, Refuses}
 use Rattle.rules.specs.Refusals.{first}
 use Rattle.rules.specs.Settle.{pairOff, weightOff, someCodeOff, settleLines, settled, settle}
 use Rattle.rule_laws.proofs.Refusals as lines
+use Rattle.rule_laws.proofs.Settling.{weighed-passes}
 
 pub refused : (s : Settings) (r : Refusal) → first (settleLines s) ≡ Refuses r → Refused r ≡ settle s
 unfolding settle
@@ -34,14 +34,9 @@ pub record Passed (s : Settings) : Type 0 where
   pub near : weightOff s (matrixOf (s .matrix)) (weightsOf s) ≡ false
   pub codes : someCodeOff s (weightsOf s) ≡ false
 
-opened : (v : Verdict) (x w : Weights) → settled v x ≡ Weighed w → (v ≡ Passes) × (x ≡ w)
-opened Passes x w e = (refl, (cc))
-opened (Refuses r) x w e = absurd (let z : _≡_ {A = ℕ} 0 1 = cc in omega arith)
-
 pub passed : (s : Settings) (w : Weights) → settle s ≡ Weighed w → Passed s × (weightsOf s ≡ w)
-unfolding settle
 passed s w e =
-    let o = opened (first (settleLines s)) (weightsOf s) w e in
+    let o = weighed-passes s w e in
     let l1 = lines.passed _ _ (o .0) in
     let l2 = lines.passed _ _ (l1 .1) in
     let l3 = lines.passed _ _ (l2 .1) in

@@ -1,0 +1,1 @@
+// What convert writes, check accepts. No code: proofs/ has the theorem.

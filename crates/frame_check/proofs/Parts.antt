@@ -1,0 +1,104 @@
+-- Row parts: where they lie, and that what they hold is what the buffers hold. Assumes nothing.
+use mathlib.Core.Path.{_≡_, refl, sym, ap, _∙_, subst}
+use mathlib.Core.Bool.{Bool, true, false}
+use mathlib.Core.List.{List, [], _∷_}
+use Prim.Native.Nat.{ℕ, _+_, _-_, _*_, _/_, _≤_, _<_}
+use native.Mathlib.Omega.{arith}
+use lib.ListN.{length, getD, take, drop, length-take, length-drop}
+use lib.Seq.{getD-take, getD-drop}
+use Rattle.rules.specs.declared.Settings.{Settings}
+use Rattle.rules.specs.declared.Named.{Named}
+use Rattle.rules.specs.declared.Frame.{Frame}
+use Rattle.rules.specs.declared.Pixel.{Pixel}
+use Rattle.rules.specs.declared.YuvSourceChannels.{YuvSourceChannels}
+use Rattle.rules.specs.Channels.{Picture, count, isU, picture}
+use Rattle.rules.specs.Blocks.{chromaWidth}
+use Rattle.rules.specs.Check.{chromaRight, lumaTest, chromaTest}
+use Rattle.samples.specs.Tiles.{leftOf, wideAt, topOf, twoAt, tiles}
+use Rattle.samples.proofs.Tiles.{block-tiles, left-below, wide-below}
+use Rattle.frames.specs.Rows.{Rows, rowPixel, Shows}
+use Rattle.frames.proofs.Places.{part-shows}
+use Rattle.frame_check.specs.Samples.{pixelRight, blockRight, elementRight, lowOf}
+
+-- n elements from row × stride on lie in a buffer whose bytes a usize counts
+pub record Part (long stride row n : ℕ) : Type 0 where
+  pub end : row * stride + n ≤ long
+  pub counted : long * 2 ≤ 18446744073709551615
+
+pub part-of : {long stride wide rows row n : ℕ} → Rows long stride wide rows → long * 2 ≤ 18446744073709551615 → row < rows → n ≡ wide → Part long stride row n
+part-of {long} {stride} {row = row} r h b e = record { end = subst (λ (m : ℕ). row * stride + m ≤ long) (sym e) (r .fits row b); counted = h }
+
+-- n elements from a on, as the borrow checker has a part that is lent
+abbrev pub part : List ℕ → ℕ → ℕ → List ℕ
+part xs a n = take (a + n - a) (drop a xs)
+
+pub part-long : (xs : List ℕ) (a n : ℕ) → a + n ≤ length xs → length (part xs a n) ≡ n
+part-long xs a n h = simp (length-take, length-drop) (omega arith)
+
+part-at : (xs : List ℕ) (a n e : ℕ) → e < n → getD (part xs a n) e 0 ≡ getD xs (a + e) 0
+part-at xs a n e h = getD-take (a + n - a) (drop a xs) e 0 (omega arith) ∙ getD-drop a xs e 0
+
+row-shows : (c : YuvSourceChannels) (source : List ℕ) (stride width row n : ℕ) → n ≡ width * count c → Shows c (part source (row * stride) n) (picture c stride source) row width
+row-shows c source stride width row n e = part-shows c source stride width row (row * stride + n - row * stride) (omega (arith, e))
+
+-- ---- a row of luma
+module _ (s : Settings) (k : Named) (f : Frame) (source luma : List ℕ) where
+  pub luma-shown : (row e n : ℕ) {r : Bool} → n ≡ f .width * count (s .channels) → e < f .width →
+      r ≡ pixelRight s k (rowPixel (s .channels) (part source (row * f .«source_stride») n) e) (getD (part luma (row * f .«luma_stride») (f .width)) e 0) →
+      r ≡ lumaTest s k f (picture (s .channels) (f .«source_stride») source) luma row e
+  luma-shown row e n w h g =
+      let p = row-shows (s .channels) source (f .«source_stride») (f .width) row n w .same e h in
+      let v = part-at luma (row * f .«luma_stride») (f .width) e h in
+      g ∙ λ i. pixelRight s k (p i) (v i)
+
+-- ---- a row of chroma
+
+-- blocks of rows that agree where they are read
+tiles-same : (a b : Bool) (t t′ l l′ : ℕ → Pixel) (x : ℕ) → t x ≡ t′ x → (a ≡ true → t (x + 1) ≡ t′ (x + 1)) → (b ≡ true → l x ≡ l′ x) →
+    (b ≡ true → a ≡ true → l (x + 1) ≡ l′ (x + 1)) → tiles a b t l x ≡ tiles a b t′ l′ x
+tiles-same false false t t′ l l′ x p q r o = λ i. p i ∷ []
+tiles-same true false t t′ l l′ x p q r o = λ i. p i ∷ q refl i ∷ []
+tiles-same false true t t′ l l′ x p q r o = λ i. p i ∷ r refl i ∷ []
+tiles-same true true t t′ l l′ x p q r o = λ i. p i ∷ q refl i ∷ r refl i ∷ o refl refl i ∷ []
+
+-- the second row, where there is one
+second : (two : Bool) (t : ℕ) {u : ℕ} → u ≡ lowOf two t → two ≡ true → u ≡ t + 1
+second two t e h = e ∙ ap (λ (b : Bool). lowOf b t) h
+
+-- lies in the picture
+pub low-below : (two : Bool) (t height : ℕ) {u : ℕ} → u ≡ lowOf two t → t < height → (two ≡ true → t + 1 < height) → u < height
+low-below true t height e h g = omega (arith, g refl)
+low-below false t height e h g = omega arith
+
+module _ (s : Settings) (k : Named) (width height : ℕ) (px : Picture) (t u : ℕ) (two : Bool) (top low : List ℕ)
+    (upper : Shows (s .channels) top px t width) (lower : Shows (s .channels) low px u width) where
+  element-shown : (row e v : ℕ) → t ≡ topOf (s .subsampling) row → two ≡ twoAt (s .subsampling) height t → u ≡ lowOf two t → e < chromaWidth (s .subsampling) width →
+      elementRight s k width two (rowPixel (s .channels) top) (rowPixel (s .channels) low) e v ≡ chromaRight s k width height px row e v
+  unfolding elementRight blockRight
+  element-shown row e v et eb eu h =
+      let sub = s .subsampling in
+      let x = leftOf sub (e / 2) in
+      let inside = left-below sub width e h in
+      let beside = wide-below sub width x in
+      let low-is : (y : ℕ) → y < width → two ≡ true → rowPixel (s .channels) low y ≡ px (t + 1) y =
+      λ y b g. lower .same y b ∙ ap (λ (r : ℕ). px r y) (second two t eu g) in
+      ap (λ (b : List Pixel). blockRight s k (isU (s .order) e) b v)
+      (tiles-same (wideAt sub width x) two (rowPixel (s .channels) top) (px t) (rowPixel (s .channels) low) (px (t + 1)) x
+      (upper .same x inside) (λ g. upper .same (x + 1) (beside g)) (low-is x inside) (λ g b. low-is (x + 1) (beside b) g)
+      ∙ (λ i. tiles (wideAt sub width x) (eb i) (px t) (px (t + 1)) x)
+      ∙ (λ i. tiles (wideAt sub width x) (twoAt sub height (et i)) (px (et i)) (px (et i + 1)) x)
+      ∙ sym (block-tiles sub width height px row (e / 2)))
+
+module _ (s : Settings) (k : Named) (f : Frame) (source chroma : List ℕ) where
+  pub chroma-shown : (row e n t u : ℕ) (two : Bool) {r : Bool} → t ≡ topOf (s .subsampling) row → two ≡ twoAt (s .subsampling) (f .height) t → u ≡ lowOf two t →
+      n ≡ f .width * count (s .channels) → (d : ℕ) → d ≡ chromaWidth (s .subsampling) (f .width) → e < d →
+      r ≡ elementRight s k (f .width) two (rowPixel (s .channels) (part source (t * f .«source_stride») n)) (rowPixel (s .channels) (part source (u * f .«source_stride») n)) e
+      (getD (part chroma (row * f .«chroma_stride») d) e 0) →
+      r ≡ chromaTest s k f (picture (s .channels) (f .«source_stride») source) chroma row e
+  chroma-shown row e n t u two et eb eu w d q l g =
+      let ch = s .channels in
+      let stride = f .«source_stride» in
+      g
+      ∙ element-shown s k (f .width) (f .height) (picture ch stride source) t u two _ _
+      (row-shows ch source stride (f .width) t n w) (row-shows ch source stride (f .width) u n w) row e _ et eb eu (subst (λ (m : ℕ). e < m) q l)
+      ∙ ap (chromaRight s k (f .width) (f .height) (picture ch stride source) row e) (part-at chroma (row * f .«chroma_stride») d e l)

@@ -1,0 +1,46 @@
+-- What a walk has passed, one step at a time, for any test of a plane's samples. Assumes nothing.
+use mathlib.Core.Path.{_≡_, subst}
+use mathlib.Core.Bool.{true, false}
+use Prim.Native.Nat.{ℕ, _+_, _≤_, _<_}
+use native.Mathlib.Omega.{arith}
+use borrow.Author.Count.{below-more}
+use Rattle.rules.specs.Check.{Test, Clean, FirstWrong}
+use Rattle.frame_check.specs.declared.walk.Found.{Found}
+use Rattle.frame_check.specs.declared.walk.Found.the-variants.{Nothing, At}
+use Rattle.frame_check.specs.Walks.{Finds}
+
+-- the first n samples of a row are right
+pub record CleanRow (t : Test) (row n : ℕ) : Type 0 where
+  pub clean : (e : ℕ) → e < n → t row e ≡ true
+
+module _ {t : Test} where
+  pub row-none : {row : ℕ} → CleanRow t row 0
+  row-none = record { clean = λ e h. absurd (omega arith) }
+
+  pub row-more : {row n : ℕ} → CleanRow t row n → t row n ≡ true → CleanRow t row (n + 1)
+  row-more {row} {n} k r = record { clean = below-more (λ (e : ℕ). t row e ≡ true) n (k .clean) r }
+
+  module _ {wide : ℕ} where
+    pub clean-none : Clean t wide 0
+    clean-none = record { clean = λ row e h k. absurd (omega arith) }
+
+    -- a row whose samples up to n, or past the visible ones, are right
+    pub clean-more : {row n : ℕ} → Clean t wide row → CleanRow t row n → wide ≤ n → Clean t wide (row + 1)
+    clean-more {row} {n} k r h =
+        record {
+          clean = λ i e b l. below-more (λ (i : ℕ). (e : ℕ) → e < wide → t i e ≡ true) row (λ i b e l. k .clean i e b l) (λ e l. r .clean e (omega arith)) i b e l;
+        }
+
+    pub clean-all : {h row : ℕ} → Clean t wide row → row ≡ h → Clean t wide h
+    clean-all k e = rw e at k
+
+    pub first-wrong : {h row e : ℕ} → row < h → e < wide → Clean t wide row → CleanRow t row e → t row e ≡ false → FirstWrong t wide h row e
+    first-wrong b i k r w = record { below = b; inside = i; wrong = w; above = k; before = r .clean }
+
+-- ---- what a walk found
+module _ {t : Test} {wide h : ℕ} {r : Found} where
+  pub found-nothing : r ≡ Nothing → Finds t wide h r → Clean t wide h
+  found-nothing e k = subst (Finds t wide h) e k
+
+  pub found-at : {row element : ℕ} → r ≡ At row element → Finds t wide h r → FirstWrong t wide h row element
+  found-at e k = subst (Finds t wide h) e k

@@ -1,0 +1,60 @@
+-- `frame_check::check_settled` meets its contract. Assumes nothing.
+use borrow.Author.Needs.{needs}
+use Rattle.frame_check.proofs.Walked.{found-nothing, found-at}
+use Rattle.frame_check.proofs.check_settled.Statement.{statement}
+use Rattle.frame_check.proofs.check_settled.Tie as tie
+
+judge-of-requires : tie.Need-judge-of-requires
+judge-of-requires c κs = search needs
+
+walk-luma-requires : tie.Need-walk-luma-requires
+walk-luma-requires c κs = search needs
+
+enum-known-in-luma : tie.Need-enum-known-in-luma
+enum-known-in-luma c = search needs
+
+returns : tie.Need-returns
+returns c = let y = c .before in found-at (y .in-luma .given .1) (y .before .before .walk-luma .ensures)
+
+enum-told : tie.Need-enum-told
+enum-told c = search needs
+
+walk-chroma-requires : tie.Need-walk-chroma-requires
+walk-chroma-requires c κs =
+    let j = c .before .before .before in
+    let b = j .before .before .before .before in
+    ((b .pre .0, j .judge-of .ensures), (b .pre .1 .1 .0, (b .pre .1 .1 .1 .0, b .pre .1 .1 .1 .1 .1)))
+
+enum-known-in-chroma : tie.Need-enum-known-in-chroma
+enum-known-in-chroma c = search needs
+
+returns-2 : tie.Need-returns-2
+returns-2 c =
+    let k = c .before in
+    let w = k .before .before in
+    let n = w .before in
+    (found-nothing (n .enum-told .given .1) (n .before .before .walk-luma .ensures), found-at (k .in-chroma .given .1) (w .walk-chroma .ensures))
+
+enum-told-2 : tie.Need-enum-told-2
+enum-told-2 c = search needs
+
+returns-3 : tie.Need-returns-3
+returns-3 c =
+    let w = c .before .before in
+    let n = w .before in
+    (found-nothing (n .enum-told .given .1) (n .before .before .walk-luma .ensures), found-nothing (c .enum-told2 .given .1) (w .walk-chroma .ensures))
+
+pub check-settled-spec : {M : Type 1} → statement M
+check-settled-spec =
+    tie.close
+    (tie.spec
+    judge-of-requires
+    walk-luma-requires
+    enum-known-in-luma
+    returns
+    enum-told
+    walk-chroma-requires
+    enum-known-in-chroma
+    returns-2
+    enum-told-2
+    returns-3)

@@ -1,0 +1,180 @@
+-- `frame_check::walk::walk_luma` meets its contract. Assumes nothing.
+use borrow.Author.Needs.{needs}
+use mathlib.Core.Path.{_≡_, refl, sym, ap, _∙_}
+use borrow.Author.Tests.{not-true, not-false}
+use Prim.Native.Nat.{ℕ, _-_, _*_, _≤_}
+use native.Mathlib.Omega.{arith}
+use lib.ListN.{length}
+use Rattle.rules.specs.Channels.{count, picture}
+use Rattle.rules.specs.Check.{Clean, lumaTest}
+use Rattle.frames.proofs.Places.{row-small}
+use Rattle.frame_check.proofs.Walked.{CleanRow, row-none, row-more, clean-none, clean-more, clean-all, first-wrong}
+use Rattle.frame_check.proofs.Parts.{Part, part-of, part-long, luma-shown}
+use Rattle.frame_check.proofs.walk.walk_luma.Statement.{statement}
+use Rattle.frame_check.proofs.walk.walk_luma.Tie as tie
+
+abbrev Inv-loop : tie.InvT-loop
+Inv-loop s k j f source luma width height across row «source_from» «source_to» line «luma_from» «luma_to» samples column₀ column =
+    (column ≤ f .width) × CleanRow (lumaTest s k f (picture (s .channels) (f .«source_stride») source) luma) row column
+
+abbrev μ-loop : tie.MeasureT-loop
+μ-loop s k j f source luma width height across row «source_from» «source_to» line «luma_from» «luma_to» samples column₀ column = f .width - column
+
+abbrev Inv-walk : tie.InvT-walk
+Inv-walk s k j f source luma width height across row₀ row =
+    (row ≤ f .height) × Clean (lumaTest s k f (picture (s .channels) (f .«source_stride») source) luma) (f .width) row
+
+abbrev μ-walk : tie.MeasureT-walk
+μ-walk s k j f source luma width height across row₀ row = f .height - row
+
+-- the bytes of the buffers are counted by a usize
+source-counted : (c : tie.After-shared-slice-known2 Inv-loop μ-loop Inv-walk μ-walk) → length (c .before .before .args .source .now) * 2 ≤ 18446744073709551615
+source-counted c = omega arith
+
+luma-counted : (c : tie.After-shared-slice-known2 Inv-loop μ-loop Inv-walk μ-walk) → length (c .before .before .args .luma .now) * 2 ≤ 18446744073709551615
+luma-counted c = omega arith
+
+-- the samples of a row
+wide : (c : tie.After-get-channels-count Inv-loop μ-loop Inv-walk μ-walk) → let a = c .before .before .before .args in a .f .width * c .get-channels-count .result ≡ a .f .width * count (a .s .channels)
+wide c = ap (λ (n : ℕ). c .before .before .before .args .f .width * n) (c .get-channels-count .ensures)
+
+-- where this turn's rows lie
+line-in : (c : tie.Else1 Inv-loop μ-loop Inv-walk μ-walk) → let g = c .before .before in let a = g .before .before .before .args in
+    Part (length (a .source .now)) (a .f .«source_stride») (c .before .walk .row) (a .f .width * g .get-channels-count .result)
+line-in c =
+    let g = c .before .before in
+    part-of (g .before .before .before .pre .1 .1 .0) (source-counted (g .before)) (omega arith) (wide g)
+
+samples-in : (c : tie.Else1 Inv-loop μ-loop Inv-walk μ-walk) → let g = c .before .before in let a = g .before .before .before .args in
+    Part (length (a .luma .now)) (a .f .«luma_stride») (c .before .walk .row) (a .f .width)
+samples-in c =
+    let g = c .before .before in
+    part-of (g .before .before .before .pre .1 .1 .1) (luma-counted (g .before)) (omega arith) refl
+
+get-channels-count-requires : tie.Need-get-channels-count-requires Inv-loop μ-loop Inv-walk μ-walk
+get-channels-count-requires c κs = search needs
+
+mul-across : tie.Need-mul-across Inv-loop μ-loop Inv-walk μ-walk
+mul-across c = let b = c .before .before .before in omega (arith, row-small (b .args .f) (b .args .s .channels) (b .pre .1 .0), wide c)
+
+walk-holds : tie.Need-walk-holds Inv-loop μ-loop Inv-walk μ-walk
+walk-holds c = (omega arith, clean-none)
+
+mul-source-from : tie.Need-mul-source-from Inv-loop μ-loop Inv-walk μ-walk
+mul-source-from c = let p = line-in (c .before) in omega (arith, p .end, p .counted)
+
+add-source-to : tie.Need-add-source-to Inv-loop μ-loop Inv-walk μ-walk
+add-source-to c = let p = line-in (c .before) in omega (arith, p .end, p .counted)
+
+mul-line : tie.Need-mul-line Inv-loop μ-loop Inv-walk μ-walk
+mul-line c = let p = line-in (c .before) in omega (arith, p .end, p .counted)
+
+sub-line : tie.Need-sub-line Inv-loop μ-loop Inv-walk μ-walk
+sub-line c = omega arith
+
+part-line-start : tie.Need-part-line-start Inv-loop μ-loop Inv-walk μ-walk
+part-line-start c = omega arith
+
+part-line-end : tie.Need-part-line-end Inv-loop μ-loop Inv-walk μ-walk
+part-line-end c = line-in (c .before) .end
+
+mul-luma-from : tie.Need-mul-luma-from Inv-loop μ-loop Inv-walk μ-walk
+mul-luma-from c = let p = samples-in (c .before .before .before) in omega (arith, p .end, p .counted)
+
+add-luma-to : tie.Need-add-luma-to Inv-loop μ-loop Inv-walk μ-walk
+add-luma-to c = let p = samples-in (c .before .before .before) in omega (arith, p .end, p .counted)
+
+mul-samples : tie.Need-mul-samples Inv-loop μ-loop Inv-walk μ-walk
+mul-samples c = let p = samples-in (c .before .before .before) in omega (arith, p .end, p .counted)
+
+sub-samples : tie.Need-sub-samples Inv-loop μ-loop Inv-walk μ-walk
+sub-samples c = omega arith
+
+part-samples-start : tie.Need-part-samples-start Inv-loop μ-loop Inv-walk μ-walk
+part-samples-start c = omega arith
+
+part-samples-end : tie.Need-part-samples-end Inv-loop μ-loop Inv-walk μ-walk
+part-samples-end c = samples-in (c .before .before .before) .end
+
+loop-holds : tie.Need-loop-holds Inv-loop μ-loop Inv-walk μ-walk
+loop-holds c = (omega arith, row-none)
+
+luma-at-requires : tie.Need-luma-at-requires Inv-loop μ-loop Inv-walk μ-walk
+luma-at-requires c κs =
+    let t = c .before .before .before .before .before .before in
+    let w = t .before in
+    let g = w .before in
+    let b = g .before .before .before in
+    let a = b .args in
+    let samples = part-long (a .luma .now) (w .walk .row * a .f .«luma_stride») (a .f .width) (samples-in t .end) in
+    let line = part-long (a .source .now) (w .walk .row * a .f .«source_stride») (a .f .width * g .get-channels-count .result) (line-in t .end) in
+    (b .pre .0 .0, (b .pre .0 .1, (c .loop-test .taken, omega (arith, samples), omega (arith, wide g, line))))
+
+-- what the test of this element says, of the buffers
+judged : (c : tie.After-luma-at Inv-loop μ-loop Inv-walk μ-walk) → let w = c .before .before .before .before .before .before .before .before in let a = w .before .before .before .before .args in
+    c .luma-at .result ≡ lumaTest (a .s) (a .k) (a .f) (picture (a .s .channels) (a .f .«source_stride») (a .source .now)) (a .luma .now) (w .walk .row) (c .before .before .loop .column)
+judged c =
+    let w = c .before .before .before .before .before .before .before .before in
+    let a = w .before .before .before .before .args in
+    luma-shown (a .s) (a .k) (a .f) (a .source .now) (a .luma .now) (w .walk .row) (c .before .before .loop .column) (a .f .width * w .before .get-channels-count .result) (wide (w .before)) (c .before .loop-test .taken) (c .luma-at .ensures)
+
+add-column : tie.Need-add-column Inv-loop μ-loop Inv-walk μ-walk
+add-column c = search needs
+
+loop-less : tie.Need-loop-less Inv-loop μ-loop Inv-walk μ-walk
+loop-less c = search needs
+
+loop-again : tie.Need-loop-again Inv-loop μ-loop Inv-walk μ-walk
+loop-again c = (search needs, row-more (c .before .before .before .loop .inv .1) (sym (judged (c .before)) ∙ not-false _ (c .if2 .left)))
+
+add-row : tie.Need-add-row Inv-loop μ-loop Inv-walk μ-walk
+add-row c = search needs
+
+walk-less : tie.Need-walk-less Inv-loop μ-loop Inv-walk μ-walk
+walk-less c = search needs
+
+walk-again : tie.Need-walk-again Inv-loop μ-loop Inv-walk μ-walk
+walk-again c = (omega arith, clean-more (c .before .before .before .before .before .before .before .walk .inv .1) (c .before .loop .inv .1) (c .loop-test .left))
+
+returns : tie.Need-returns Inv-loop μ-loop Inv-walk μ-walk
+returns c = clean-all (c .before .walk .inv .1) (c .if1 .taken)
+
+returns-2 : tie.Need-returns-2 Inv-loop μ-loop Inv-walk μ-walk
+returns-2 c =
+    let i = c .before .before in
+    let t = i .before .before .before .before .before .before in
+    first-wrong (omega (arith, t .before .walk .inv .0, t .if1 .left)) (i .loop-test .taken) (t .before .walk .inv .1) (i .before .loop .inv .1) (sym (judged (c .before)) ∙ not-true _ (c .if2 .taken))
+
+pub walk-luma-spec : {M : Type 1} → statement M
+walk-luma-spec =
+    tie.close
+    (tie.spec
+    Inv-loop
+    μ-loop
+    Inv-walk
+    μ-walk
+    get-channels-count-requires
+    mul-across
+    walk-holds
+    mul-source-from
+    add-source-to
+    mul-line
+    sub-line
+    part-line-start
+    part-line-end
+    mul-luma-from
+    add-luma-to
+    mul-samples
+    sub-samples
+    part-samples-start
+    part-samples-end
+    loop-holds
+    luma-at-requires
+    add-column
+    loop-less
+    loop-again
+    add-row
+    walk-less
+    walk-again
+    returns
+    returns-2)

@@ -1,0 +1,113 @@
+// The walks through the two planes, row by row and element by element, each left at the first wrong sample.
+ghost use mathlib.Core.Path.{_≡_};
+ghost use Prim.Native.Nat.{_*_, _<_};
+ghost use lib.ListN.{length};
+ghost use Rattle.rules.specs.Channels.{count, picture};
+ghost use Rattle.rules.specs.Blocks.{chromaWidth, chromaHeight};
+ghost use Rattle.rules.specs.Check.{lumaTest, chromaTest};
+ghost use Rattle.rule_laws.specs.Usable.{Reach};
+ghost use Rattle.frames.specs.Rows.{Rows};
+ghost use Rattle.frames.specs.Tests.{Sized};
+ghost use Rattle.frame_check.specs.Judging.{Judging};
+ghost use Rattle.frame_check.specs.Samples.{lowOf};
+ghost use Rattle.frame_check.specs.Walks.{Finds};
+use crate::judge::Judge;
+use crate::row;
+use rules::Frame;
+use rules::Named;
+use rules::Settings;
+use samples::blocks;
+use yuv_support::channels;
+
+// What a walk yields: nothing wrong, or the row and the element of the first wrong sample.
+pub enum Found {
+    Nothing,
+    At(usize, usize),
+}
+
+// Through luma: each element is judged by the pixel of its column.
+pub fn walk_luma(s: Settings, k: Named, j: Judge, f: Frame, source: &[u16], luma: &[u16]) -> Found
+    requires { ⌜ (Reach s) × (Judging s k j) ⌝ }
+    requires { ⌜ Sized f ⌝ }
+    requires { ⌜ Rows (length (now source)) (f .«source_stride») (f .width * count (s .channels)) (f .height) ⌝ }
+    requires { ⌜ Rows (length (now luma)) (f .«luma_stride») (f .width) (f .height) ⌝ }
+    ensures { λ r. ⌜ Finds (lumaTest s k f (picture (s .channels) (f .«source_stride») (now (source .entry))) (now (luma .entry))) (f .width) (f .height) r ⌝ }
+{
+    let channels = s.channels;
+    let width = f.width;
+    let height = f.height;
+    let across = width * channels::get_channels_count(channels);
+    let mut row = 0;
+    'walk: loop {
+        if row == height {
+            break 'walk Found::Nothing;
+        }
+        let source_from = row * f.source_stride;
+        let source_to = source_from + across;
+        let line = &source[source_from..source_to];
+        let luma_from = row * f.luma_stride;
+        let luma_to = luma_from + width;
+        let samples = &luma[luma_from..luma_to];
+        for column in 0..width {
+            if !row::luma_at(s, k, j, width, line, samples, column) {
+                break 'walk Found::At(row, column);
+            }
+        }
+        row += 1;
+    }
+}
+
+// The second source row of a chroma row; where there is none, the first again, of which nothing is then read.
+fn lower(two: bool, top: usize) -> usize
+    requires { ⌜ top < 16384 ⌝ }
+    ensures { λ r. ⌜ r ≡ lowOf two top ⌝ }
+{
+    if two { top + 1 } else { top }
+}
+
+// Through chroma: each element is judged by the pixels of its block, in one or two source rows.
+pub fn walk_chroma(
+    s: Settings,
+    k: Named,
+    j: Judge,
+    f: Frame,
+    source: &[u16],
+    chroma: &[u16],
+) -> Found
+    requires { ⌜ (Reach s) × (Judging s k j) ⌝ }
+    requires { ⌜ Sized f ⌝ }
+    requires { ⌜ Rows (length (now source)) (f .«source_stride») (f .width * count (s .channels)) (f .height) ⌝ }
+    requires { ⌜ Rows (length (now chroma)) (f .«chroma_stride») (chromaWidth (s .subsampling) (f .width)) (chromaHeight (s .subsampling) (f .height)) ⌝ }
+    ensures { λ r. ⌜ Finds (chromaTest s k f (picture (s .channels) (f .«source_stride») (now (source .entry))) (now (chroma .entry))) (chromaWidth (s .subsampling) (f .width)) (chromaHeight (s .subsampling) (f .height)) r ⌝ }
+{
+    let channels = s.channels;
+    let subsampling = s.subsampling;
+    let width = f.width;
+    let height = f.height;
+    let across = width * channels::get_channels_count(channels);
+    let wide = blocks::chroma_width(subsampling, width);
+    let rows = blocks::chroma_height(subsampling, height);
+    let mut row = 0;
+    'walk: loop {
+        if row == rows {
+            break 'walk Found::Nothing;
+        }
+        let t = blocks::top(subsampling, row);
+        let two = blocks::two(subsampling, height, t);
+        let top_from = t * f.source_stride;
+        let top_to = top_from + across;
+        let top = &source[top_from..top_to];
+        let low_from = lower(two, t) * f.source_stride;
+        let low_to = low_from + across;
+        let low = &source[low_from..low_to];
+        let chroma_from = row * f.chroma_stride;
+        let chroma_to = chroma_from + wide;
+        let samples = &chroma[chroma_from..chroma_to];
+        for element in 0..wide {
+            if !row::chroma_at(s, k, j, width, two, top, low, samples, element) {
+                break 'walk Found::At(row, element);
+            }
+        }
+        row += 1;
+    }
+}
