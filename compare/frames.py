@@ -3,7 +3,7 @@
 import sys
 from fractions import Fraction
 
-from model import TABLE, Frame, Settings, convert
+from model import TABLE, Frame, Settings, check, convert
 
 ROOM = 65540
 ROW = (1023, 0, 0, 0, 0, 1023, 1023, 1023, 1023)
@@ -33,6 +33,11 @@ def shown(name, plane):
     return f'{name} sum {total}'
 
 
+def spoiled(plane, seed):
+    at = seed % 13
+    return plane[:at] + [7] + plane[at + 1:] if at < len(plane) else plane
+
+
 def work_out(line):
     n = [int(word) for word in line.split()[1:]]
     s = Settings(n[0], n[1], MATRICES[n[2]], n[3] == 1, *n[4:9])
@@ -40,18 +45,24 @@ def work_out(line):
     lengths = [min(length, ROOM) for length in n[14:17]]
     source = source_of(n[0], n[17], lengths[0], n[18], n[19])
     number, luma, chroma = convert(s, f, source, [7] * lengths[1], [7] * lengths[2])
-    return [line, f'answer {number}', shown('luma', luma), shown('chroma', chroma)]
+    spoiled_luma, spoiled_chroma = spoiled(luma, n[17]), spoiled(chroma, n[17])
+    checks = [check(s, f, source, a, b) for a, b in ((luma, chroma), (luma, spoiled_chroma), (spoiled_luma, spoiled_chroma))]
+    return [line, f'answer {number}', shown('luma', luma), shown('chroma', chroma)] + checks
 
 
 def main():
     lines = open(sys.argv[1]).read().splitlines()
-    cases = [lines[i:i + 4] for i in range(0, len(lines), 4)]
+    cases = [lines[i:i + 7] for i in range(0, len(lines), 7)]
     wrong = [(case, right) for case in cases for right in [work_out(case[0])] if case != right]
     for case, right in wrong[:10]:
         print('\n'.join(case), '\n should be', '\n'.join(right))
     answers = [int(case[1].split()[1]) for case in cases]
     print(f'{len(cases)} frames, {len(wrong)} differ')
     print('answers:', {n: answers.count(n) for n in range(11)})
+    for k, name in ((4, 'as written'), (5, 'chroma spoiled'), (6, 'both spoiled')):
+        checks = [case[k].split() for case in cases]
+        print(f'checks {name}:', {word: sum(c[:len(word.split())] == word.split() for c in checks)
+                                  for word in ('accepted', 'wrong 0', 'wrong 1', 'refused')})
     sys.exit(1 if wrong else 0)
 
 

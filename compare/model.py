@@ -186,3 +186,55 @@ def convert(s, f, source, luma, chroma):
             average = tuple(mean([p[c] for p in pixels]) for c in range(3))
             chroma[row * f.chroma_stride + k] = s.word(code(s.precision, 2 ** (s.depth - 1), w[3:6] if is_u else w[6:9], average))
     return 0, luma, chroma
+
+
+def formed(s, word):
+    """The code that is stored as a word, or None."""
+    v = word % 256 * 256 + word // 256 if s.endianness == 0 else word
+    if s.packing == 1:
+        return v if v <= s.m() else None
+    return v >> (16 - s.depth) if v % 2 ** (16 - s.depth) == 0 else None
+
+
+def exact_luma(s, rgb):
+    r, b = TABLE[s.matrix]
+    range_y = s.m() if s.full else 219 * 2 ** (s.depth - 8)
+    return s.bias_y() + Fraction((r * rgb[0] + (10000 - r - b) * rgb[1] + b * rgb[2]) * range_y, 10000 * s.m())
+
+
+def exact_chroma(s, pixels, is_u):
+    r, b = TABLE[s.matrix]
+    range_uv = s.m() if s.full else 224 * 2 ** (s.depth - 8)
+    sums = [sum(p[c] for p in pixels) for c in range(3)]
+    blend = r * sums[0] + (10000 - r - b) * sums[1] + b * sums[2]
+    own, k = (sums[2], b) if is_u else (sums[0], r)
+    return 2 ** (s.depth - 1) + Fraction((10000 * own - blend) * range_uv, 2 * (10000 - k) * len(pixels) * s.m())
+
+
+def tolerance(m, precision, pixels):
+    return Fraction(1 if pixels == 1 else 2, 2) + Fraction(153 * m, 100 * 2 ** precision)
+
+
+def wrong(s, word, exact, pixels):
+    c = formed(s, word)
+    return c is None or abs(c - exact) > tolerance(s.m(), s.precision, pixels)
+
+
+def check(s, f, source, luma, chroma):
+    """'refused N', 'wrong PLANE ROW ELEMENT' or 'accepted'."""
+    w = s.settle()
+    number = w if isinstance(w, int) else 0 if isinstance(s.matrix, str) else 6
+    number = number or frame_refusal(s, f, source, luma, chroma)
+    if number:
+        return f'refused {number}'
+    for y in range(f.height):
+        for x in range(f.width):
+            if wrong(s, luma[y * f.luma_stride + x], exact_luma(s, pixel(s, f, source, y, x)), 1):
+                return f'wrong 0 {y} {x}'
+    wide, high = s.chroma_size(f.width, f.height)
+    for row in range(high):
+        for k in range(wide):
+            pixels = [pixel(s, f, source, y, x) for y, x in block(s, f, row, k // 2)]
+            if wrong(s, chroma[row * f.chroma_stride + k], exact_chroma(s, pixels, k % 2 == s.order), len(pixels)):
+                return f'wrong 1 {row} {k}'
+    return 'accepted'

@@ -1,4 +1,5 @@
-// Converts frames and prints each case with its answer and both planes; compare/frames.py works every line out afresh.
+// Converts frames, checks them, and prints each case with its answers and both planes; compare/frames.py works every line out
+// afresh.
 ghost use Prim.Native.Nat.{_≤_, _<_};
 use planes::Case;
 

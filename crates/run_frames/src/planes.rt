@@ -1,8 +1,9 @@
-// One case: buffers filled, a frame converted, the answer and both planes printed.
+// One case: buffers filled, a frame converted, the answer and both planes printed; then the planes checked, whole and spoiled.
 ghost use mathlib.Core.Path.{_≡_};
 ghost use Prim.Native.Nat.{_≤_, _<_};
 ghost use lib.ListN.{length};
 use libc::STDOUT_FILENO;
+use rules::Checked;
 use rules::Converted;
 use rules::Frame;
 use rules::Settings;
@@ -310,6 +311,52 @@ fn convert_and_put(c: Case, source: &[u16], luma: &mut [u16], chroma: &mut [u16]
     number
 }
 
+// Checks the planes as they are and prints the answer.
+fn check_and_put(c: Case, source: &[u16], luma: &[u16], chroma: &[u16]) {
+    let answer = frame_check::check(settings_of(c), frame_of(c), source, luma, chroma);
+    match answer {
+        Checked::Accepted => {
+            put(b"accepted");
+        }
+        Checked::Wrong(place) => {
+            put(b"wrong");
+            put_number(place.plane);
+            put_number(place.row);
+            put_number(place.element);
+        }
+        Checked::Refused(r) => {
+            put(b"refused");
+            put_small(r.number());
+        }
+    }
+    put(b"\n");
+}
+
+// One element of a plane, padding or not, is again what it was before the frame came.
+fn spoil(plane: &mut [u16], seed: u32) {
+    let at = (seed % 13) as usize;
+    if at < plane.len() {
+        plane[at] = 7;
+    }
+}
+
+// Checks what was written; then with chroma spoiled; then with luma spoiled too.
+fn check_spoiled(c: Case, source: &[u16], luma: &mut [u16], chroma: &mut [u16]) {
+    check_and_put(c, source, luma, chroma);
+    spoil(chroma, c.seed);
+    check_and_put(c, source, luma, chroma);
+    spoil(luma, c.seed);
+    check_and_put(c, source, luma, chroma);
+}
+
+fn convert_and_check(c: Case, source: &[u16], luma: &mut [u16], chroma: &mut [u16]) -> u32
+    ensures { λ r. ⌜ r ≤ 10 ⌝ }
+{
+    let number = convert_and_put(c, source, luma, chroma);
+    check_spoiled(c, source, luma, chroma);
+    number
+}
+
 fn least(a: usize, b: usize) -> usize
     ensures { λ r. ⌜ r ≤ b ⌝ }
 {
@@ -327,5 +374,5 @@ pub fn run(c: Case) -> u32
     let n = least(c.source, 65540);
     let m = least(c.luma, 65540);
     let k = least(c.chroma, 65540);
-    convert_and_put(c, &source[..n], &mut luma[..m], &mut chroma[..k])
+    convert_and_check(c, &source[..n], &mut luma[..m], &mut chroma[..k])
 }

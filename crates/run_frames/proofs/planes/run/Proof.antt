@@ -32,23 +32,23 @@ least-requires-3 c κs = search needs
 array-share-prefix-source : tie.Need-array-share-prefix-source
 array-share-prefix-source c = search needs
 
-slice-aggregate-convert-and-put : tie.Need-slice-aggregate-convert-and-put
-slice-aggregate-convert-and-put c = simp length-take (omega arith)
+slice-aggregate-convert-and-check : tie.Need-slice-aggregate-convert-and-check
+slice-aggregate-convert-and-check c = simp length-take (omega arith)
 
 array-borrow-prefix-luma : tie.Need-array-borrow-prefix-luma
 array-borrow-prefix-luma c = search needs
 
-slice-aggregate-convert-and-put-2 : tie.Need-slice-aggregate-convert-and-put-2
-slice-aggregate-convert-and-put-2 c = simp length-take (omega arith)
+slice-aggregate-convert-and-check-2 : tie.Need-slice-aggregate-convert-and-check-2
+slice-aggregate-convert-and-check-2 c = simp length-take (omega arith)
 
 array-borrow-prefix-chroma : tie.Need-array-borrow-prefix-chroma
 array-borrow-prefix-chroma c = search needs
 
-slice-aggregate-convert-and-put-3 : tie.Need-slice-aggregate-convert-and-put-3
-slice-aggregate-convert-and-put-3 c = simp length-take (omega arith)
+slice-aggregate-convert-and-check-3 : tie.Need-slice-aggregate-convert-and-check-3
+slice-aggregate-convert-and-check-3 c = simp length-take (omega arith)
 
-convert-and-put-requires : tie.Need-convert-and-put-requires
-convert-and-put-requires c κs = search needs
+convert-and-check-requires : tie.Need-convert-and-check-requires
+convert-and-check-requires c κs = search needs
 
 returns : tie.Need-returns
 returns c = search needs
@@ -66,10 +66,10 @@ run-spec =
     least-requires-2
     least-requires-3
     array-share-prefix-source
-    slice-aggregate-convert-and-put
+    slice-aggregate-convert-and-check
     array-borrow-prefix-luma
-    slice-aggregate-convert-and-put-2
+    slice-aggregate-convert-and-check-2
     array-borrow-prefix-chroma
-    slice-aggregate-convert-and-put-3
-    convert-and-put-requires
+    slice-aggregate-convert-and-check-3
+    convert-and-check-requires
     returns)
