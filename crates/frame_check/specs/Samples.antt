@@ -1,4 +1,5 @@
--- The test of one sample by pixels, by blocks and by rows. Definitions and statements only.
+-- The test of one sample by pixels, by blocks and by rows.
+-- Definitions and statements only.
 use Prim.Native.Nat.{ℕ, _+_, _/_, _<_}
 use mathlib.Core.Path.{_≡_}
 use mathlib.Core.Bool.{Bool, true, false, _&&_, cond}

@@ -1,110 +1,28 @@
 // Converts frames, checks them, and prints each case with its answers and both planes; compare/frames.py works every line out
 // afresh.
 ghost use Prim.Native.Nat.{_≤_, _<_};
-use planes::Case;
+use cases::case;
 
-mod planes;
-
-// J of document 01 at 4:2:0, RGB, UV, least-significant, little endian, with its 3×1 frame.
-fn base() -> Case {
-    Case {
-        depth: 10,
-        precision: 13,
-        matrix: 0,
-        range: 1,
-        subsampling: 0,
-        order: 0,
-        packing: 1,
-        endianness: 1,
-        channels: 0,
-        width: 3,
-        height: 1,
-        source_stride: 9,
-        luma_stride: 4,
-        chroma_stride: 6,
-        source: 9,
-        luma: 4,
-        chroma: 6,
-        seed: 0,
-        at: 65540,
-        sample: 0,
-    }
-}
-
-fn count_of(channels: u32) -> usize
-    ensures { λ r. ⌜ r ≤ 4 ⌝ }
-{
-    match channels {
-        0 => 3,
-        1 => 4,
-        2 => 4,
-        _ => 3,
-    }
-}
-
-fn chroma_width(subsampling: u32, width: usize) -> usize
-    requires { ⌜ width ≤ 20000 ⌝ }
-    ensures { λ r. ⌜ r ≤ 40002 ⌝ }
-{
-    if subsampling == 2 {
-        2 * width
-    } else {
-        (width + 1) / 2 * 2
-    }
-}
-
-fn chroma_height(subsampling: u32, height: usize) -> usize
-    requires { ⌜ height ≤ 20000 ⌝ }
-    ensures { λ r. ⌜ r ≤ 20001 ⌝ }
-{
-    if subsampling == 0 {
-        (height + 1) / 2
-    } else {
-        height
-    }
-}
-
-// The length of rows of a stride.
-fn area(a: usize, b: usize) -> usize
-    requires { ⌜ (a ≤ 100000) × (b ≤ 100000) ⌝ }
-{
-    a * b
-}
-
-// Strides with some padding and exact lengths for a size.
-fn laid(c: Case, width: usize, height: usize, pad: usize) -> Case
-    requires { ⌜ (width ≤ 20000) × (height ≤ 20000) × (pad ≤ 9) ⌝ }
-{
-    let mut d = c;
-    d.width = width;
-    d.height = height;
-    d.source_stride = width * count_of(c.channels) + pad;
-    d.luma_stride = width + pad;
-    d.chroma_stride = chroma_width(c.subsampling, width) + pad;
-    d.source = area(d.source_stride, height);
-    d.luma = area(d.luma_stride, height);
-    d.chroma = area(d.chroma_stride, chroma_height(c.subsampling, height));
-    d
-}
+mod run;
 
 // Document 01's whole frames: 3×1 and 3×2.
 fn whole_frames() {
-    let c = base();
-    planes::run(c);
+    let c = case::base();
+    run::run(c);
     let mut d = c;
     d.height = 2;
     d.source = 18;
     d.luma = 8;
-    planes::run(d);
+    run::run(d);
 }
 
 fn run_laid(subsampling: u32, width: usize, height: usize, pad: usize)
     requires { ⌜ (width ≤ 20000) × (height ≤ 20000) × (pad ≤ 9) ⌝ }
 {
-    let mut c = base();
+    let mut c = case::base();
     c.subsampling = subsampling;
     c.seed = 1;
-    planes::run(laid(c, width, height, pad));
+    run::run(case::laid(c, width, height, pad));
 }
 
 // Both sides of the limits of a size, and the largest number.
@@ -121,33 +39,33 @@ fn sizes() {
     run_laid(1, 1, 16384, 0);
     run_laid(2, 1, 16384, 0);
     run_laid(0, 1, 16385, 0);
-    let mut c = base();
+    let mut c = case::base();
     c.width = 18446744073709551615;
-    planes::run(c);
-    let mut d = base();
+    run::run(c);
+    let mut d = case::base();
     d.height = 18446744073709551615;
-    planes::run(d);
+    run::run(d);
 }
 
 fn run_source_stride(stride: usize, length: usize) {
-    let mut c = base();
+    let mut c = case::base();
     c.source_stride = stride;
     c.source = length;
-    planes::run(c);
+    run::run(c);
 }
 
 fn run_luma_stride(stride: usize, length: usize) {
-    let mut c = base();
+    let mut c = case::base();
     c.luma_stride = stride;
     c.luma = length;
-    planes::run(c);
+    run::run(c);
 }
 
 fn run_chroma_stride(stride: usize, length: usize) {
-    let mut c = base();
+    let mut c = case::base();
     c.chroma_stride = stride;
     c.chroma = length;
-    planes::run(c);
+    run::run(c);
 }
 
 // Each stride one short, as short as it may be, at 65,536, one over it, and the largest number.
@@ -184,13 +102,13 @@ fn lengths() {
 
 // A sample put at an index of a 3×2 frame with one element of padding in each row.
 fn run_sample(channels: u32, at: usize, sample: u16) {
-    let mut c = base();
+    let mut c = case::base();
     c.channels = channels;
     c.seed = 5;
-    let mut d = laid(c, 3, 2, 1);
+    let mut d = case::laid(c, 3, 2, 1);
     d.at = at;
     d.sample = sample;
-    planes::run(d);
+    run::run(d);
 }
 
 // m and m + 1 in each channel of the first and of the last visible pixel; then in padding and in alpha, where it does not matter.
@@ -215,12 +133,12 @@ fn samples() {
 }
 
 fn run_settings(depth: u32, precision: u32, matrix: u32, width: usize) {
-    let mut c = base();
+    let mut c = case::base();
     c.depth = depth;
     c.precision = precision;
     c.matrix = matrix;
     c.width = width;
-    planes::run(c);
+    run::run(c);
 }
 
 // Settings that are refused, alone and with a size of 0; then each refusal of a frame with the next one.
@@ -234,36 +152,36 @@ fn orders() {
     run_settings(13, 13, 3, 0);
     run_settings(10, 13, 5, 3);
     run_settings(10, 13, 5, 0);
-    let mut c = base();
+    let mut c = case::base();
     c.width = 0;
     c.source_stride = 65537;
-    planes::run(c);
-    let mut d = base();
+    run::run(c);
+    let mut d = case::base();
     d.luma_stride = 2;
     d.source = 8;
-    planes::run(d);
-    let mut e = base();
+    run::run(d);
+    let mut e = case::base();
     e.chroma = 5;
     e.at = 0;
     e.sample = 1024;
-    planes::run(e);
+    run::run(e);
 }
 
 // Every subsampling at sizes from 1×1 to 5×5, the other settings changing from frame to frame.
 fn run_size(t: usize)
     requires { ⌜ t < 75 ⌝ }
 {
-    let mut c = base();
+    let mut c = case::base();
     c.depth = 10 + (t % 7) as u32;
     c.matrix = (t % 6) as u32;
     c.range = (t / 2 % 2) as u32;
     c.subsampling = (t / 25) as u32;
     c.order = (t / 3 % 2) as u32;
     c.packing = (t / 4 % 2) as u32;
-    c.endianness = (t / 5 % 2) as u32;
+    c.byte_order = (t / 5 % 2) as u32;
     c.channels = (t % 4) as u32;
     c.seed = (t + 10) as u32;
-    planes::run(laid(c, 1 + t % 5, 1 + t / 5 % 5, t % 3));
+    run::run(case::laid(c, 1 + t % 5, 1 + t / 5 % 5, t % 3));
 }
 
 fn sweep_sizes() {
@@ -276,15 +194,15 @@ fn sweep_sizes() {
 fn run_layout(t: usize)
     requires { ⌜ t < 192 ⌝ }
 {
-    let mut c = base();
+    let mut c = case::base();
     c.range = (t % 2) as u32;
     c.order = (t / 2 % 2) as u32;
     c.packing = (t / 4 % 2) as u32;
-    c.endianness = (t / 8 % 2) as u32;
+    c.byte_order = (t / 8 % 2) as u32;
     c.channels = (t / 16 % 4) as u32;
     c.subsampling = (t / 64) as u32;
     c.seed = (t + 100) as u32;
-    planes::run(laid(c, 3, 3, 1));
+    run::run(case::laid(c, 3, 3, 1));
 }
 
 fn sweep_layouts() {
@@ -297,13 +215,13 @@ fn sweep_layouts() {
 fn run_depth(t: usize)
     requires { ⌜ t < 182 ⌝ }
 {
-    let mut c = base();
+    let mut c = case::base();
     c.depth = 10 + (t % 7) as u32;
     c.precision = 1 + (t / 7 % 13) as u32;
     c.range = (t / 91) as u32;
     c.matrix = 1;
     c.seed = (t + 300) as u32;
-    planes::run(laid(c, 2, 2, 0));
+    run::run(case::laid(c, 2, 2, 0));
 }
 
 fn sweep_depths() {

@@ -1,0 +1,49 @@
+"""Cases as the programs print them: settings, a frame and buffers by numbers, and the samples drawn for them."""
+from fractions import Fraction
+
+from model import TABLE, Frame, Settings
+
+ROOM = 65540
+ROW = (1023, 0, 0, 0, 0, 1023, 1023, 1023, 1023)
+MATRICES = list(TABLE) + [(Fraction(1, 4), Fraction(1, 8)), (Fraction(0), Fraction(0))]
+
+
+def source_of(depth, seed, length, at, sample):
+    m = 2 ** depth - 1 if 10 <= depth <= 16 else 1023
+    if seed == 0:
+        source = [ROW[i % 9] for i in range(length)]
+    else:
+        source, x = [], seed % 65537
+        for _ in range(length):
+            x = (x * 75 + 74) % 65537
+            source.append(x % (m + 1) % 65536)
+    if at < length:
+        source[at] = sample
+    return source
+
+
+class Case:
+    """The twenty numbers of a line that begins with 'case'."""
+
+    def __init__(self, line):
+        n = [int(word) for word in line.split()[1:]]
+        self.settings = Settings(n[0], n[1], MATRICES[n[2]], n[3] == 1, *n[4:9])
+        self.frame = Frame(*n[9:14])
+        self.lengths = [min(length, ROOM) for length in n[14:17]]
+        self.seed, self.at, self.sample = n[17:20]
+
+    def source(self, seed=None):
+        return source_of(self.settings.depth, self.seed if seed is None else seed, self.lengths[0], self.at, self.sample)
+
+    def planes(self):
+        """Both planes before anything is written."""
+        return [7] * self.lengths[1], [7] * self.lengths[2]
+
+
+def shown(name, plane):
+    if len(plane) <= 256:
+        return ' '.join([name] + [str(v) for v in plane])
+    total = 0
+    for v in plane:
+        total = (total * 31 + v + 1) % 65521
+    return f'{name} sum {total}'

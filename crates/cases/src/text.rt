@@ -1,0 +1,119 @@
+// Lines of text on standard output: each function hands back how many numbers its line has.
+ghost use mathlib.Core.Path.{_≡_};
+ghost use Prim.Native.Nat.{_≤_, _<_};
+ghost use lib.ListN.{length};
+use crate::case::Case;
+use crate::services::Told;
+use libc::STDOUT_FILENO;
+
+fn put(text: &[u8]) {
+    io::write_all(STDOUT_FILENO, text);
+}
+
+fn put_number(n: usize) {
+    put(b" ");
+    io::print_decimal(STDOUT_FILENO, n as u64);
+}
+
+// A name and numbers.
+pub fn line(name: &[u8], numbers: &[usize]) -> usize
+    ensures { λ r. ⌜ r ≡ length (now (numbers .entry)) ⌝ }
+{
+    put(name);
+    let mut i = 0;
+    while i < numbers.len() {
+        put_number(numbers[i]);
+        i += 1;
+    }
+    put(b"\n");
+    i
+}
+
+fn small(n: u32) -> usize
+    ensures { λ r. ⌜ r ≡ n ⌝ }
+{
+    n as usize
+}
+
+// A case, as its fields come.
+pub fn case(c: Case) -> usize
+    ensures { λ r. ⌜ r ≡ 20 ⌝ }
+{
+    let numbers = [
+        small(c.depth),
+        small(c.precision),
+        small(c.matrix),
+        small(c.range),
+        small(c.subsampling),
+        small(c.order),
+        small(c.packing),
+        small(c.byte_order),
+        small(c.channels),
+        c.width,
+        c.height,
+        c.source_stride,
+        c.luma_stride,
+        c.chroma_stride,
+        c.source,
+        c.luma,
+        c.chroma,
+        small(c.seed),
+        c.at,
+        small(c.sample as u32),
+    ];
+    line(b"case", &numbers)
+}
+
+// A check's answer.
+pub fn answer(t: Told) -> usize
+    ensures { λ r. ⌜ r ≤ 3 ⌝ }
+{
+    if t.refusal != 0 {
+        return line(b"refused", &[t.refusal as usize]);
+    }
+    if t.wrong {
+        return line(b"wrong", &[t.plane, t.row, t.element]);
+    }
+    line(b"accepted", &[])
+}
+
+// One step of a plane's checksum.
+fn mixed(sum: u32, v: u16) -> u32
+    requires { ⌜ sum < 65521 ⌝ }
+    ensures { λ r. ⌜ r < 65521 ⌝ }
+{
+    (sum * 31 + (v as u32) + 1) % 65521
+}
+
+fn checksum(plane: &[u16]) -> u32 {
+    let mut sum = 0;
+    let mut i = 0;
+    while i < plane.len() {
+        sum = mixed(sum, plane[i]);
+        i += 1;
+    }
+    sum
+}
+
+fn put_elements(plane: &[u16]) {
+    let mut i = 0;
+    while i < plane.len() {
+        put_number(plane[i] as usize);
+        i += 1;
+    }
+}
+
+// A plane whole, or its checksum where it is long.
+pub fn plane(name: &[u8], plane: &[u16]) -> usize
+    ensures { λ r. ⌜ r ≡ length (now (plane .entry)) ⌝ }
+{
+    put(name);
+    if plane.len() <= 256 {
+        put_elements(plane);
+    } else {
+        put(b" sum");
+        put_number(checksum(plane) as usize);
+    }
+    put(b"\n");
+    plane.len()
+}

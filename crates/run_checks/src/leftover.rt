@@ -1,0 +1,131 @@
+// Rows left over from another frame, 5×4 both: each row of each plane alone, and each with all rows below it.
+ghost use Prim.Native.Nat.{_<_, _≤_};
+use crate::planes;
+use cases::case::Case;
+use cases::draw;
+use cases::services;
+use cases::text;
+
+// Rows of a plane: which plane, the first of them, and how many.
+struct Rows {
+    plane: usize,
+    first: usize,
+    count: usize,
+}
+
+// The index at which a row starts.
+fn start(stride: usize, row: usize) -> usize
+    requires { ⌜ row ≤ 8 ⌝ }
+{
+    stride % 65536 * row
+}
+
+// Lays rows of the other frame's planes over the planes.
+fn lay(c: Case, luma: &mut [u16], chroma: &mut [u16], old_luma: &[u16], old_chroma: &[u16], r: Rows)
+    requires { ⌜ (r .first ≤ 4) × (r .count ≤ 4) ⌝ }
+{
+    let end = r.first + r.count;
+    if r.plane == 0 {
+        let luma_stride = c.luma_stride;
+        planes::take(
+            luma,
+            old_luma,
+            start(luma_stride, r.first),
+            start(luma_stride, end),
+        );
+    } else {
+        let chroma_stride = c.chroma_stride;
+        planes::take(
+            chroma,
+            old_chroma,
+            start(chroma_stride, r.first),
+            start(chroma_stride, end),
+        );
+    }
+}
+
+fn try_rows(
+    c: Case,
+    source: &[u16],
+    luma: &mut [u16],
+    chroma: &mut [u16],
+    old_luma: &[u16],
+    old_chroma: &[u16],
+    r: Rows,
+)
+    requires { ⌜ (r .first ≤ 4) × (r .count ≤ 4) ⌝ }
+{
+    services::convert(c, source, luma, chroma);
+    lay(c, luma, chroma, old_luma, old_chroma, r);
+    text::line(b"left", &[r.plane, r.first, r.count]);
+    text::answer(services::check(c, source, luma, chroma));
+}
+
+// Each row of a plane alone, and with all rows below it.
+fn try_plane(
+    c: Case,
+    source: &[u16],
+    luma: &mut [u16],
+    chroma: &mut [u16],
+    old_luma: &[u16],
+    old_chroma: &[u16],
+    plane: usize,
+) {
+    for row in 0..4 {
+        let one = Rows {
+            plane,
+            first: row,
+            count: 1,
+        };
+        try_rows(c, source, luma, chroma, old_luma, old_chroma, one);
+        let rest = Rows {
+            plane,
+            first: row,
+            count: 4 - row,
+        };
+        try_rows(c, source, luma, chroma, old_luma, old_chroma, rest);
+    }
+}
+
+// Converts the other frame, then tries both planes.
+fn try_planes(
+    c: Case,
+    source: &[u16],
+    luma: &mut [u16],
+    chroma: &mut [u16],
+    other: Case,
+    other_source: &[u16],
+    old_luma: &mut [u16],
+    old_chroma: &mut [u16],
+) {
+    services::convert(other, other_source, old_luma, old_chroma);
+    try_plane(c, source, luma, chroma, old_luma, old_chroma, 0);
+    try_plane(c, source, luma, chroma, old_luma, old_chroma, 1);
+}
+
+// The other frame has the same settings and size, and samples of another seed.
+pub fn run(c: Case, seed: u32) {
+    text::case(c);
+    text::line(b"over", &[seed as usize]);
+    let mut other = c;
+    other.seed = seed;
+    let source = draw::source_of(c);
+    let other_source = draw::source_of(other);
+    let mut luma = draw::room(7);
+    let mut chroma = draw::room(7);
+    let mut old_luma = draw::room(7);
+    let mut old_chroma = draw::room(7);
+    let n = draw::within_room(c.source);
+    let m = draw::within_room(c.luma);
+    let k = draw::within_room(c.chroma);
+    try_planes(
+        c,
+        &source[..n],
+        &mut luma[..m],
+        &mut chroma[..k],
+        other,
+        &other_source[..n],
+        &mut old_luma[..m],
+        &mut old_chroma[..k],
+    );
+}

@@ -1,0 +1,142 @@
+// Each of the 65,536 words in turn at one place of a converted frame of 3×3 pixels with one element of padding in each row: how
+// many are accepted, the first and the last of them, and for how many the check names that very place.
+use crate::planes;
+use cases::case::Case;
+use cases::draw;
+use cases::services;
+use cases::services::Told;
+use cases::text;
+
+// A place, and its index in its plane.
+struct Spot {
+    plane: usize,
+    row: usize,
+    element: usize,
+    at: usize,
+}
+
+struct Tally {
+    accepted: usize,
+    first: usize,
+    last: usize,
+    named: usize,
+}
+
+fn more(n: usize) -> usize {
+    if n < 65536 { n + 1 } else { n }
+}
+
+fn names(t: Told, spot: Spot) -> bool {
+    t.refusal == 0
+        && t.wrong
+        && t.plane == spot.plane
+        && t.row == spot.row
+        && t.element == spot.element
+}
+
+// The tally with one more word.
+fn tallied(tally: Tally, spot: Spot, t: Told, v: usize) -> Tally {
+    let mut next = tally;
+    if names(t, spot) {
+        next.named = more(next.named);
+    }
+    if t.refusal == 0 && !t.wrong {
+        if next.accepted == 0 {
+            next.first = v;
+        }
+        next.accepted = more(next.accepted);
+        next.last = v;
+    }
+    next
+}
+
+fn put_word(luma: &mut [u16], chroma: &mut [u16], spot: Spot, v: u16) {
+    if spot.plane == 0 {
+        planes::put(luma, spot.at, v);
+    } else {
+        planes::put(chroma, spot.at, v);
+    }
+}
+
+fn check_word(
+    c: Case,
+    source: &[u16],
+    luma: &mut [u16],
+    chroma: &mut [u16],
+    spot: Spot,
+    v: u16,
+) -> Told {
+    put_word(luma, chroma, spot, v);
+    services::check(c, source, luma, chroma)
+}
+
+fn try_words(c: Case, source: &[u16], luma: &mut [u16], chroma: &mut [u16], spot: Spot) {
+    services::convert(c, source, luma, chroma);
+    let mut tally = Tally {
+        accepted: 0,
+        first: 0,
+        last: 0,
+        named: 0,
+    };
+    for v in 0..65536 {
+        let t = check_word(c, source, luma, chroma, spot, v as u16);
+        tally = tallied(tally, spot, t, v);
+    }
+    text::line(
+        b"words",
+        &[
+            spot.plane,
+            spot.row,
+            spot.element,
+            tally.accepted,
+            tally.first,
+            tally.last,
+            tally.named,
+        ],
+    );
+}
+
+fn spot_at(plane: usize, row: usize, element: usize, at: usize) -> Spot {
+    Spot {
+        plane,
+        row,
+        element,
+        at,
+    }
+}
+
+// The last visible chroma element of a frame of 3×3.
+fn last_chroma(subsampling: u32) -> Spot {
+    match subsampling {
+        0 => spot_at(1, 1, 3, 8),
+        1 => spot_at(1, 2, 3, 13),
+        _ => spot_at(1, 2, 5, 19),
+    }
+}
+
+fn try_luma(c: Case, source: &[u16], luma: &mut [u16], chroma: &mut [u16]) {
+    try_words(c, source, luma, chroma, spot_at(0, 0, 0, 0));
+    try_words(c, source, luma, chroma, spot_at(0, 2, 2, 10));
+}
+
+fn try_chroma(c: Case, source: &[u16], luma: &mut [u16], chroma: &mut [u16]) {
+    try_words(c, source, luma, chroma, spot_at(1, 0, 0, 0));
+    try_words(c, source, luma, chroma, last_chroma(c.subsampling));
+}
+
+// The first and the last place of each plane.
+fn try_spots(c: Case, source: &[u16], luma: &mut [u16], chroma: &mut [u16]) {
+    try_luma(c, source, luma, chroma);
+    try_chroma(c, source, luma, chroma);
+}
+
+pub fn run(c: Case) {
+    text::case(c);
+    let source = draw::source_of(c);
+    let mut luma = draw::room(7);
+    let mut chroma = draw::room(7);
+    let n = draw::within_room(c.source);
+    let m = draw::within_room(c.luma);
+    let k = draw::within_room(c.chroma);
+    try_spots(c, &source[..n], &mut luma[..m], &mut chroma[..k]);
+}
