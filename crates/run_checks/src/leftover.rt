@@ -104,7 +104,7 @@ fn try_planes(
 }
 
 // The other frame has the same settings and size, and samples of another seed.
-pub fn run(c: Case, seed: u32) {
+pub(crate) fn run(c: Case, seed: u32) {
     text::case(c);
     text::line(b"over", &[seed as usize]);
     let mut other = c;

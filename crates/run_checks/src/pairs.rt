@@ -40,7 +40,7 @@ fn try_pairs(c: Case, source: &[u16], luma: &mut [u16], chroma: &mut [u16], coun
     }
 }
 
-pub fn run(c: Case) {
+pub(crate) fn run(c: Case) {
     text::case(c);
     let source = draw::source_of(c);
     let mut luma = draw::room(7);

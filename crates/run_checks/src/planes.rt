@@ -1,7 +1,7 @@
 // Changes to a plane.
 
 // One element changed, where there is one.
-pub fn put(plane: &mut [u16], at: usize, v: u16) {
+pub(crate) fn put(plane: &mut [u16], at: usize, v: u16) {
     if at < plane.len() {
         plane[at] = v;
     }
@@ -13,7 +13,7 @@ fn flipped(v: u16) -> u16 {
 }
 
 // An element's highest bit changed, where there is one.
-pub fn flip(plane: &mut [u16], at: usize) {
+pub(crate) fn flip(plane: &mut [u16], at: usize) {
     if at < plane.len() {
         plane[at] = flipped(plane[at]);
     }
@@ -27,7 +27,7 @@ fn take_one(plane: &mut [u16], other: &[u16], at: usize) {
 }
 
 // Elements from one index up to another taken from a second plane.
-pub fn take(plane: &mut [u16], other: &[u16], from: usize, to: usize) {
+pub(crate) fn take(plane: &mut [u16], other: &[u16], from: usize, to: usize) {
     let mut i = from;
     while i < to {
         take_one(plane, other, i);

@@ -65,7 +65,7 @@ fn frames() {
     check_frame(3, 4, 4, 1023);
 }
 
-pub fn run() {
+pub(crate) fn run() {
     settings();
     frames();
 }
