@@ -3,7 +3,7 @@ ghost use mathlib.Core.Path.{_≡_};
 ghost use Prim.Native.Nat.{_≤_, _<_};
 ghost use lib.ListN.{length};
 use crate::case::Case;
-use crate::services::Told;
+use ayresokum::CheckedNumbers;
 use libc::STDOUT_FILENO;
 
 fn put(text: &[u8]) {
@@ -29,7 +29,8 @@ pub fn line(name: &[u8], numbers: &[usize]) -> usize
     i
 }
 
-fn small(n: u32) -> usize
+// A number of 32 bits.
+pub fn small(n: u32) -> usize
     ensures { λ r. ⌜ r ≡ n ⌝ }
 {
     n as usize
@@ -65,14 +66,14 @@ pub fn case(c: Case) -> usize
 }
 
 // A check's answer.
-pub fn answer(t: Told) -> usize
+pub fn answer(t: CheckedNumbers) -> usize
     ensures { λ r. ⌜ r ≤ 3 ⌝ }
 {
     if t.refusal != 0 {
-        return line(b"refused", &[t.refusal as usize]);
+        return line(b"refused", &[small(t.refusal)]);
     }
-    if t.wrong {
-        return line(b"wrong", &[t.plane, t.row, t.element]);
+    if t.wrong != 0 {
+        return line(b"wrong", &[small(t.plane), small(t.row), small(t.element)]);
     }
     line(b"accepted", &[])
 }

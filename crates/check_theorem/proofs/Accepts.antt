@@ -32,7 +32,8 @@ use Rattle.rule_laws.proofs.Refusals.{skip}
 use Rattle.tolerance_laws.proofs.Blocks.{block-at}
 use Rattle.settle.proofs.Verdicts.{weighed}
 use Rattle.frame_check.proofs.Unique.{one-answer, accepted-iff}
-use Rattle.check_theorem.proofs.Lines.{parted, joined, framed, verdict-passes}
+use Rattle.check_theorem.proofs.Lines.{framed, verdict-passes}
+use Rattle.rule_laws.proofs.Refusals.{parted, passed-on}
 use Rattle.check_theorem.proofs.Lowness.{low-all}
 use Rattle.check_theorem.proofs.Written.{written-long, written-at}
 use Rattle.check_theorem.proofs.Words.{luma-word-right, chroma-word-right}
@@ -98,9 +99,9 @@ module _ (s : Settings) (k : Named) (named : matrixOf (s .matrix) ≡ Tabled k) 
   unrefused =
       let y : length (lumaAfter s f source luma chroma) ≡ length luma = ap length luma-is ∙ written-long _ _ _ _ luma in
       let c : length (chromaAfter s f source luma chroma) ≡ length chroma = ap length chroma-is ∙ written-long _ _ _ _ chroma in
-      joined (settleLines s) (line CustomUnchecked (isCustom (matrixOf (s .matrix))) ∷ frameLines s f source (length (lumaAfter s f source luma chroma)) (length (chromaAfter s f source luma chroma)))
+      passed-on (settleLines s) (line CustomUnchecked (isCustom (matrixOf (s .matrix))) ∷ frameLines s f source (length (lumaAfter s f source luma chroma)) (length (chromaAfter s f source luma chroma)))
       (tables .0)
-      (skip _ _ (ap isCustom named) ∙ (λ i. first (linesBy s f source (y i) (c i))) ∙ tables .1)
+      ∙ (skip _ _ (ap isCustom named) ∙ (λ i. first (linesBy s f source (y i) (c i))) ∙ tables .1)
 
   -- THE THEOREM
   pub accepts : Answers s f source (lumaAfter s f source luma chroma) (chromaAfter s f source luma chroma) Accepted

@@ -1,7 +1,7 @@
--- Tables of refusals that follow one another, and what convert's being done says of them. Assumes nothing.
-use mathlib.Core.Path.{_≡_, refl, _∙_}
-use mathlib.Core.Bool.{Bool, true, false, not, _||_, true≢false}
-use mathlib.Core.List.{List, [], _∷_, _++_}
+-- What convert's being done says of the frame's lines. Assumes nothing.
+use mathlib.Core.Path.{_≡_, refl}
+use mathlib.Core.Bool.{Bool, true, false, not, true≢false}
+use mathlib.Core.List.{List}
 use Prim.Native.Nat.{ℕ, _*_, _≤_}
 use native.Mathlib.Omega.{arith}
 use lib.Dec.{eqb}
@@ -15,32 +15,17 @@ use Rattle.rules.specs.Channels.{count, picture}
 use Rattle.rules.specs.Blocks.{chromaWidth, chromaHeight}
 use Rattle.rules.specs.declared.Verdict.{Verdict}
 use Rattle.rules.specs.declared.Verdict.the-variants.{Passes, Refuses}
-use Rattle.rules.specs.Refusals.{outside, Line, first}
+use Rattle.rules.specs.Refusals.{outside, first}
 use Rattle.rules.specs.Frames.{isFound, tooLargeAt, frameLines}
 use Rattle.rules.specs.Convert.{answer, verdict, convert}
 use Rattle.rule_laws.proofs.Refusals as lines
-
--- ---- two tables pass exactly where each does
-pub parted : (ls ms : List Line) → first (ls ++ ms) ≡ Passes → (first ls ≡ Passes) × (first ms ≡ Passes)
-parted [] ms h = (lines.end, h)
-parted (l ∷ ls) ms h =
-    let p = lines.passed l (ls ++ ms) h in
-    let q = parted ls ms (p .1) in
-    (lines.skip l ls (p .0) ∙ q .0, q .1)
-
-pub joined : (ls ms : List Line) → first ls ≡ Passes → first ms ≡ Passes → first (ls ++ ms) ≡ Passes
-joined [] ms h k = k
-joined (l ∷ ls) ms h k = let p = lines.passed l ls h in lines.skip l (ls ++ ms) (p .0) ∙ joined ls ms (p .1) k
+use Rattle.plane_laws.proofs.Tests.{neither}
 
 done : (v : Verdict) → answer v ≡ Done → v ≡ Passes
 done Passes e = refl
 done (Refuses r) e = absurd (let z : _≡_ {A = ℕ} 0 1 = cc in omega arith)
 
 -- ---- what the frame's lines say where they pass
-neither : (a b : Bool) → a || b ≡ false → (a ≡ false) × (b ≡ false)
-neither false b e = (refl, e)
-neither true b e = absurd (true≢false e)
-
 equal : (a b : ℕ) → not (eqb a b) ≡ false → a ≡ b
 equal a b e = go (eqb a b) (eqb-true a b) e
   where

@@ -11,6 +11,7 @@ use rules::YuvSourceChannels;
 use rules::YuvStandardMatrix;
 
 // The matrices in the order of document 01's table, 5 for the pair kr, kb; the other enumerations by the Rust's numbers.
+#[repr(C)]
 pub struct SettingsNumbers {
     pub depth: u32,
     pub precision: u32,

@@ -69,6 +69,14 @@ module _ (ls ms : List Line) where
   pub refused-before : (r : Refusal) → first ls ≡ Refuses r → first (ls ++ ms) ≡ Refuses r
   refused-before r h = first-then ls ms ∙ ap (λ (v : Verdict). then v (first ms)) h
 
+-- two tables pass only where each does
+pub parted : (ls ms : List Line) → first (ls ++ ms) ≡ Passes → (first ls ≡ Passes) × (first ms ≡ Passes)
+parted [] ms h = (end, h)
+parted (l ∷ ls) ms h =
+    let p = passed l (ls ++ ms) h in
+    let q = parted ls ms (p .1) in
+    (skip l ls (p .0) ∙ q .0, q .1)
+
 -- ---- a number below a lower bound, from it on, and within two bounds
 module _ (low high n : ℕ) where
   pub below : n < low → outside low high n ≡ true

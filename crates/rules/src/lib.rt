@@ -108,6 +108,7 @@ impl Settings {
 }
 
 // A frame's size in pixels, and the strides of its three buffers in u16 elements.
+#[repr(C)]
 pub struct Frame {
     pub width: usize,
     pub height: usize,
@@ -143,6 +144,7 @@ pub struct CbCrForwardTransform {
 }
 
 // The nine weights times 2^P, as whole numbers.
+#[repr(C)]
 pub struct Weights {
     pub yr: i32,
     pub yg: i32,

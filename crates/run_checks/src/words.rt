@@ -1,17 +1,17 @@
 // Each of the 65,536 words in turn at one place of a converted frame of 3×3 pixels with one element of padding in each row: how
 // many are accepted, the first and the last of them, and for how many the check names that very place.
 use crate::planes;
+use ayresokum::CheckedNumbers;
 use cases::case::Case;
 use cases::draw;
 use cases::services;
-use cases::services::Told;
 use cases::text;
 
 // A place, and its index in its plane.
 struct Spot {
-    plane: usize,
-    row: usize,
-    element: usize,
+    plane: u32,
+    row: u32,
+    element: u32,
     at: usize,
 }
 
@@ -26,21 +26,21 @@ fn more(n: usize) -> usize {
     if n < 65536 { n + 1 } else { n }
 }
 
-fn names(t: Told, spot: Spot) -> bool {
+fn names(t: CheckedNumbers, spot: Spot) -> bool {
     t.refusal == 0
-        && t.wrong
+        && t.wrong == 1
         && t.plane == spot.plane
         && t.row == spot.row
         && t.element == spot.element
 }
 
 // The tally with one more word.
-fn tallied(tally: Tally, spot: Spot, t: Told, v: usize) -> Tally {
+fn tallied(tally: Tally, spot: Spot, t: CheckedNumbers, v: usize) -> Tally {
     let mut next = tally;
     if names(t, spot) {
         next.named = more(next.named);
     }
-    if t.refusal == 0 && !t.wrong {
+    if t.refusal == 0 && t.wrong == 0 {
         if next.accepted == 0 {
             next.first = v;
         }
@@ -65,7 +65,7 @@ fn check_word(
     chroma: &mut [u16],
     spot: Spot,
     v: u16,
-) -> Told {
+) -> CheckedNumbers {
     put_word(luma, chroma, spot, v);
     services::check(c, source, luma, chroma)
 }
@@ -85,9 +85,9 @@ fn try_words(c: Case, source: &[u16], luma: &mut [u16], chroma: &mut [u16], spot
     text::line(
         b"words",
         &[
-            spot.plane,
-            spot.row,
-            spot.element,
+            text::small(spot.plane),
+            text::small(spot.row),
+            text::small(spot.element),
             tally.accepted,
             tally.first,
             tally.last,
@@ -96,7 +96,7 @@ fn try_words(c: Case, source: &[u16], luma: &mut [u16], chroma: &mut [u16], spot
     );
 }
 
-fn spot_at(plane: usize, row: usize, element: usize, at: usize) -> Spot {
+fn spot_at(plane: u32, row: u32, element: u32, at: usize) -> Spot {
     Spot {
         plane,
         row,

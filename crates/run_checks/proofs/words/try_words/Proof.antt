@@ -39,6 +39,15 @@ loop-again c = search needs
 slice-aggregate-line : tie.Need-slice-aggregate-line Inv-loop μ-loop
 slice-aggregate-line c = search needs
 
+small-requires : tie.Need-small-requires Inv-loop μ-loop
+small-requires c κs = search needs
+
+small-requires-2 : tie.Need-small-requires-2 Inv-loop μ-loop
+small-requires-2 c κs = search needs
+
+small-requires-3 : tie.Need-small-requires-3 Inv-loop μ-loop
+small-requires-3 c κs = search needs
+
 slice-aggregate-line-2 : tie.Need-slice-aggregate-line-2 Inv-loop μ-loop
 slice-aggregate-line-2 c = search needs
 
@@ -69,6 +78,9 @@ try-words-spec =
     loop-less
     loop-again
     slice-aggregate-line
+    small-requires
+    small-requires-2
+    small-requires-3
     slice-aggregate-line-2
     line-requires
     same-length
