@@ -3,6 +3,7 @@ ghost use Prim.Native.Nat.{_<_, _≤_};
 use crate::planes;
 use cases::case::Case;
 use cases::draw;
+use cases::planes::start;
 use cases::services;
 use cases::text;
 
@@ -11,13 +12,6 @@ struct Rows {
     plane: usize,
     first: usize,
     count: usize,
-}
-
-// The index at which a row starts.
-fn start(stride: usize, row: usize) -> usize
-    requires { ⌜ row ≤ 8 ⌝ }
-{
-    stride % 65536 * row
 }
 
 // Lays rows of the other frame's planes over the planes.

@@ -1,11 +1,5 @@
 // Changes to a plane.
-
-// One element changed, where there is one.
-pub(crate) fn put(plane: &mut [u16], at: usize, v: u16) {
-    if at < plane.len() {
-        plane[at] = v;
-    }
-}
+use cases::planes::put;
 
 // A word with its highest bit changed.
 fn flipped(v: u16) -> u16 {

@@ -1,9 +1,9 @@
 // Each of the 65,536 words in turn at one place of a converted frame of 3×3 pixels with one element of padding in each row: how
 // many are accepted, the first and the last of them, and for how many the check names that very place.
-use crate::planes;
 use ayresokum::CheckedNumbers;
 use cases::case::Case;
 use cases::draw;
+use cases::planes::put;
 use cases::services;
 use cases::text;
 
@@ -52,9 +52,9 @@ fn tallied(tally: Tally, spot: Spot, t: CheckedNumbers, v: usize) -> Tally {
 
 fn put_word(luma: &mut [u16], chroma: &mut [u16], spot: Spot, v: u16) {
     if spot.plane == 0 {
-        planes::put(luma, spot.at, v);
+        put(luma, spot.at, v);
     } else {
-        planes::put(chroma, spot.at, v);
+        put(chroma, spot.at, v);
     }
 }
 

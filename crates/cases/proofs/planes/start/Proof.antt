@@ -1,15 +1,14 @@
--- `run_checks::leftover::start` meets its contract. Assumes nothing.
-use borrow.Author.Needs.{needs}
+-- `cases::planes::start` meets its contract. Assumes nothing.
 use native.Mathlib.Nat.{lt-of-le-of-lt, mul-le-mul, mod-lt, le-of-lt}
 use lib.Dec.{lit<}
-use Rattle.run_checks.proofs.leftover.start.Statement.{statement}
-use Rattle.run_checks.proofs.leftover.start.Tie as tie
+use Rattle.cases.proofs.planes.start.Statement.{statement}
+use Rattle.cases.proofs.planes.start.Tie as tie
 
 mul-result : tie.Need-mul-result
 mul-result c = record { fits = lt-of-le-of-lt (mul-le-mul (le-of-lt (mod-lt (c .args .stride) (lit< tt))) (c .pre)) (lit< tt) }
 
 returns : tie.Need-returns
-returns c = search needs
+returns c = mul-le-mul (le-of-lt (mod-lt (c .args .stride) (lit< tt))) (c .pre)
 
 pub start-spec : {M : Type 1} → statement M
 start-spec = tie.close (tie.spec mul-result returns)

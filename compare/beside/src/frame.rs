@@ -1,0 +1,63 @@
+//! The sizes of a frame, laid out as the library takes them, and its planes.
+use crate::settings::Settings;
+use std::fmt;
+
+#[repr(C)]
+#[derive(Clone, Copy)]
+pub struct Frame {
+    pub width: usize,
+    pub height: usize,
+    pub source_stride: usize,
+    pub luma_stride: usize,
+    pub chroma_stride: usize,
+}
+
+impl Frame {
+    /// A frame with so many elements of padding in each row of the source, the luma plane and the chroma plane.
+    pub fn padded(settings: &Settings, width: usize, height: usize, padding: [usize; 3]) -> Frame {
+        Frame {
+            width,
+            height,
+            source_stride: width * settings.channel_count() + padding[0],
+            luma_stride: width + padding[1],
+            chroma_stride: settings.chroma_width(width) + padding[2],
+        }
+    }
+
+    pub fn source_length(&self) -> usize {
+        self.source_stride * self.height
+    }
+
+    pub fn luma_length(&self) -> usize {
+        self.luma_stride * self.height
+    }
+
+    pub fn chroma_length(&self, settings: &Settings) -> usize {
+        self.chroma_stride * settings.chroma_rows(self.height)
+    }
+}
+
+impl fmt::Display for Frame {
+    fn fmt(&self, f: &mut fmt::Formatter) -> fmt::Result {
+        write!(
+            f,
+            "{}x{}, strides {} {} {}",
+            self.width, self.height, self.source_stride, self.luma_stride, self.chroma_stride
+        )
+    }
+}
+
+#[derive(Clone, PartialEq)]
+pub struct Planes {
+    pub luma: Vec<u16>,
+    pub chroma: Vec<u16>,
+}
+
+impl Planes {
+    pub fn filled(luma_length: usize, chroma_length: usize, word: u16) -> Planes {
+        Planes {
+            luma: vec![word; luma_length],
+            chroma: vec![word; chroma_length],
+        }
+    }
+}

@@ -1,0 +1,104 @@
+//! The crate's side: the same settings and frames, handed to the published loops.
+use crate::frame::{Frame, Planes};
+use crate::settings::{Settings, CUSTOM, SMPTE240};
+use published::{Call, Choice, Plane, YuvBiPlanarImageMut, YuvError, YuvRange, YuvStandardMatrix};
+
+/// The type that weights are cast to before the loops.
+#[derive(Clone, Copy, PartialEq)]
+pub enum WeightType {
+    OfTheDepth,
+    I32,
+}
+
+/// Whether the published checks of both planes are asked before the loops.
+#[derive(Clone, Copy, PartialEq)]
+pub enum PlaneChecks {
+    Asked,
+    LeftOut,
+}
+
+pub fn matrix(settings: &Settings) -> YuvStandardMatrix {
+    match settings.matrix {
+        0 => YuvStandardMatrix::Bt601,
+        1 => YuvStandardMatrix::Bt709,
+        2 => YuvStandardMatrix::Bt2020,
+        // The crate has its two numbers crossed.
+        SMPTE240 => YuvStandardMatrix::Custom(0.212, 0.087),
+        4 => YuvStandardMatrix::Bt470_6,
+        CUSTOM => YuvStandardMatrix::Custom(settings.kr, settings.kb),
+        other => panic!("no matrix has the number {other}"),
+    }
+}
+
+pub fn range(settings: &Settings) -> YuvRange {
+    match settings.range {
+        0 => YuvRange::Limited,
+        _ => YuvRange::Full,
+    }
+}
+
+/// The name of an error without its sizes.
+pub fn error_name(error: &YuvError) -> String {
+    let text = format!("{error:?}");
+    text.split('(').next().unwrap_or_default().to_string()
+}
+
+fn choice(settings: &Settings, weight_type: WeightType) -> Choice {
+    Choice {
+        precision: settings.precision,
+        channels: settings.channels,
+        order: settings.order,
+        subsampling: settings.subsampling,
+        byte_order: settings.byte_order,
+        packing: settings.packing,
+        depth: settings.depth,
+        is_wide: weight_type == WeightType::I32,
+    }
+}
+
+fn short(size: usize) -> u32 {
+    u32::try_from(size).expect("the crate takes sizes and strides of 32 bits")
+}
+
+/// The crate's answer, or None where its loops were not built for the settings.
+pub fn convert_with(
+    settings: &Settings,
+    frame: &Frame,
+    source: &[u16],
+    planes: &mut Planes,
+    weight_type: WeightType,
+    checks: PlaneChecks,
+) -> Option<Result<(), YuvError>> {
+    let mut image = YuvBiPlanarImageMut {
+        y_plane: Plane(&mut planes.luma),
+        y_stride: short(frame.luma_stride),
+        uv_plane: Plane(&mut planes.chroma),
+        uv_stride: short(frame.chroma_stride),
+        width: short(frame.width),
+        height: short(frame.height),
+        is_checked: checks == PlaneChecks::Asked,
+    };
+    let call = Call {
+        image: &mut image,
+        source,
+        source_stride: short(frame.source_stride),
+        range: range(settings),
+        matrix: matrix(settings),
+    };
+    published::convert(choice(settings, weight_type), call)
+}
+
+/// The loops on a frame that they take, with the weights of the depth.
+pub fn convert(settings: &Settings, frame: &Frame, source: &[u16], planes: &mut Planes) {
+    let weight_type = WeightType::OfTheDepth;
+    convert_with(
+        settings,
+        frame,
+        source,
+        planes,
+        weight_type,
+        PlaneChecks::LeftOut,
+    )
+    .expect("the loops are built for every setting that is compared")
+    .expect("the source has its exact length");
+}

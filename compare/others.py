@@ -1,0 +1,76 @@
+#!/usr/bin/env python3
+"""others.py: frames of random pixels converted to 4:4:4 by ffmpeg's zscale (zimg) and by its swscale, each sample judged by
+ayresokum_check. Needs ffmpeg, a C compiler and target/staticlib/libayresokum.a (rt staticlib ayresokum)."""
+import random
+import struct
+import subprocess
+import tempfile
+from collections import Counter
+
+from library import Frame, Settings, load, samples
+
+SIDE = 128
+MATRICES = {'bt709': (1, '709', 'bt709'), 'bt2020': (2, '2020_ncl', 'bt2020'), 'bt601': (0, '170m', 'smpte170m')}
+
+
+def filters(matrix, full):
+    zimg, sws = MATRICES[matrix][1:]
+    out = 'full' if full else 'limited'
+    return {'zscale': f'zscale=matrixin=gbr:matrix={zimg}:rangein=full:range={out}',
+            'swscale': f'scale=in_range=full:out_range={out}:out_color_matrix={sws}:flags=accurate_rnd+full_chroma_int+full_chroma_inp',
+            'swscale, default flags': f'scale=in_range=full:out_range={out}:out_color_matrix={sws}'}
+
+
+def planes(name, data, length):
+    return [struct.unpack(f'<{length}H', data[2 * length * i:2 * length * (i + 1)]) for i in range(3)]
+
+
+def ffmpeg(chain, depth, pixels):
+    """Three planes Y, U, V of a picture of pixels (r, g, b)."""
+    with tempfile.NamedTemporaryFile(suffix='.raw') as source:
+        for channel in (1, 2, 0):
+            source.write(struct.pack(f'<{len(pixels)}H', *[p[channel] for p in pixels]))
+        source.flush()
+        command = ['ffmpeg', '-v', 'error', '-f', 'rawvideo', '-pix_fmt', f'gbrp{depth}le', '-s', f'{SIDE}x{SIDE}', '-i', source.name,
+                   '-vf', f'{chain},format=yuv444p{depth}le', '-f', 'rawvideo', '-pix_fmt', f'yuv444p{depth}le', '-']
+        return planes(chain, subprocess.run(command, check=True, capture_output=True).stdout, len(pixels))
+
+
+def judge(library, settings, pixel, y, u, v):
+    """Which of Y, U and V are wrong: each is judged with the other two as our converter writes them."""
+    frame = Frame(1, 1, 3, 1, 2)
+    source = samples(pixel)
+    luma, chroma = samples([0]), samples([0, 0])
+    assert library.convert(settings, frame, source, luma, chroma) == 0
+    theirs = ((0, 0, y), (1, 0, u), (1, 1, v))
+    wrong = []
+    for name, (plane, element, code) in zip('YUV', theirs):
+        trial = [samples(luma[:]), samples(chroma[:])]
+        trial[plane][element] = code
+        answer = library.check(settings, frame, source, *trial)
+        assert answer.refusal == 0
+        if answer.wrong:
+            assert (answer.plane, answer.row, answer.element) == (plane, 0, element)
+            wrong.append(name)
+    return wrong
+
+
+def main():
+    library = load()
+    draw = random.Random(2026)
+    print('| converter | matrix | range | depth | samples of each | Y wrong | U wrong | V wrong |\n|---|---|---|---|---|---|---|---|')
+    for matrix in MATRICES:
+        for full in (False, True):
+            for depth in (10, 12):
+                m = 2 ** depth - 1
+                pixels = [tuple(draw.choice((0, m, draw.randint(0, m))) for _ in range(3)) for _ in range(SIDE * SIDE)]
+                settings = Settings(depth, 13, MATRICES[matrix][0], 0.0, 0.0, int(full), 2, 0, 1, 1, 0)
+                for name, chain in filters(matrix, full).items():
+                    count = Counter()
+                    for pixel, *codes in zip(pixels, *ffmpeg(chain, depth, pixels)):
+                        count.update(judge(library, settings, pixel, *codes))
+                    shares = ' | '.join(f'{100 * count[k] / len(pixels):.2f} %' for k in 'YUV')
+                    print(f'| {name} | {matrix} | {"full" if full else "limited"} | {depth} | {len(pixels)} | {shares} |', flush=True)
+
+
+main()

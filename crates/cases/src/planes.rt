@@ -1,0 +1,31 @@
+// One element of a plane.
+ghost use mathlib.Core.Path.{_≡_};
+ghost use Prim.Native.Nat.{_<_, _≤_};
+ghost use lib.ListN.{length, getD};
+
+// An element changed, where there is one.
+pub fn put(plane: &mut [u16], at: usize, v: u16)
+    ensures { λ r. ⌜ length (now (plane .exit)) ≡ length (now (plane .entry)) ⌝ }
+{
+    if at < plane.len() {
+        plane[at] = v;
+    }
+}
+
+// An element, or 0 where there is none.
+pub fn get(plane: &[u16], at: usize) -> u16
+    ensures { λ r. ⌜ (at < length (now (plane .entry)) → r ≡ getD (now (plane .entry)) at 0) ⌝ }
+{
+    if at < plane.len() {
+        return plane[at];
+    }
+    0
+}
+
+// The index at which one of the first rows starts.
+pub fn start(stride: usize, row: usize) -> usize
+    requires { ⌜ row ≤ 8 ⌝ }
+    ensures { λ r. ⌜ r ≤ 524288 ⌝ }
+{
+    stride % 65536 * row
+}
