@@ -1,12 +1,9 @@
-"""The exported functions through ctypes. `load()` links target/staticlib/libayresokum.a, which `rt staticlib ayresokum` writes, into a
-shared library and opens it."""
+"""The exported functions through ctypes, from build/libayresokum.so, which `make lib` writes."""
 import ctypes
 import os
-import subprocess
-import tempfile
 
-ROOT = os.path.dirname(os.path.dirname(os.path.abspath(__file__)))
-ARCHIVE = os.path.join(ROOT, 'target', 'staticlib', 'libayresokum.a')
+PATH = os.path.join(os.path.dirname(os.path.dirname(os.path.abspath(__file__))), 'build', 'libayresokum.so')
+WEIGHTS = ('yr', 'yg', 'yb', 'cb_r', 'cb_g', 'cb_b', 'cr_r', 'cr_g', 'cr_b')
 
 
 class Settings(ctypes.Structure):
@@ -19,17 +16,28 @@ class Frame(ctypes.Structure):
     _fields_ = [(name, ctypes.c_size_t) for name in ('width', 'height', 'source_stride', 'luma_stride', 'chroma_stride')]
 
 
+class Settled(ctypes.Structure):
+    _fields_ = [('refusal', ctypes.c_uint32)] + [(name, ctypes.c_int32) for name in WEIGHTS]
+
+
 class Checked(ctypes.Structure):
     _fields_ = [(name, ctypes.c_uint32) for name in ('refusal', 'wrong', 'plane', 'row', 'element')]
 
 
 class Library:
-    def __init__(self, path):
-        self.calls = ctypes.CDLL(path)
+    def __init__(self):
+        self.calls = ctypes.CDLL(PATH)
+        self.calls.ayresokum_settle.argtypes = [Settings]
+        self.calls.ayresokum_settle.restype = Settled
         samples = [ctypes.POINTER(ctypes.c_uint16), ctypes.c_size_t]
         for call, result in ((self.calls.ayresokum_convert, ctypes.c_uint32), (self.calls.ayresokum_check, Checked)):
             call.argtypes = [Settings, Frame] + samples * 3
             call.restype = result
+
+    def settle(self, settings):
+        """The refusal's number, and the nine weights."""
+        s = self.calls.ayresokum_settle(settings)
+        return s.refusal, [getattr(s, name) for name in WEIGHTS]
 
     def convert(self, settings, frame, source, luma, chroma):
         return self.calls.ayresokum_convert(settings, frame, source, len(source), luma, len(luma), chroma, len(chroma))
@@ -40,10 +48,3 @@ class Library:
 
 def samples(values):
     return (ctypes.c_uint16 * len(values))(*values)
-
-
-def load():
-    folder = tempfile.mkdtemp()
-    path = os.path.join(folder, 'libayresokum.so')
-    subprocess.check_call(['cc', '-shared', '-o', path, '-Wl,--whole-archive', ARCHIVE, '-Wl,--no-whole-archive'])
-    return Library(path)

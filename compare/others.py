@@ -1,13 +1,13 @@
 #!/usr/bin/env python3
 """others.py: frames of random pixels converted to 4:4:4 by ffmpeg's zscale (zimg) and by its swscale, each sample judged by
-ayresokum_check. Needs ffmpeg, a C compiler and target/staticlib/libayresokum.a (rt staticlib ayresokum)."""
+ayresokum_check. Needs ffmpeg and build/libayresokum.so (make lib)."""
 import random
 import struct
 import subprocess
 import tempfile
 from collections import Counter
 
-from library import Frame, Settings, load, samples
+from library import Frame, Library, Settings, samples
 
 SIDE = 128
 MATRICES = {'bt709': (1, '709', 'bt709'), 'bt2020': (2, '2020_ncl', 'bt2020'), 'bt601': (0, '170m', 'smpte170m')}
@@ -56,7 +56,7 @@ def judge(library, settings, pixel, y, u, v):
 
 
 def main():
-    library = load()
+    library = Library()
     draw = random.Random(2026)
     print(f'{SIDE * SIDE} pixels in each line')
     print('| converter | matrix | range | depth | Y wrong | U wrong | V wrong | furthest from convert, in codes |\n|---|---|---|---|---|---|---|---|')

@@ -1,0 +1,40 @@
+# make lib       build/libayresokum.a and build/libayresokum.so
+# make demo      a temper-colour ramp converted, checked, spoiled and checked again
+# make examples  the programs of examples/, and the header as C99 and as C++17
+# make test      the examples, the calls from Python, and the tests of the Rust crate where cargo is there
+# Each needs the Rattle kit (rt) and a C compiler.
+CC ?= cc
+CXX ?= c++
+STRICT = -Wall -Wextra -pedantic -Werror
+RULES = $(shell find crates -name '*.rt' -o -name '*.antt') crates.txt
+
+.PHONY: lib demo examples test clean
+
+lib: build/libayresokum.a build/libayresokum.so
+
+build/libayresokum.a: $(RULES)
+	mkdir -p build
+	rt staticlib ayresokum > build/staticlib.log || (cat build/staticlib.log; false)
+	cp target/staticlib/libayresokum.a $@
+
+build/libayresokum.so: build/libayresokum.a
+	$(CC) -shared -o $@ -Wl,--whole-archive $< -Wl,--no-whole-archive -Wl,-soname,libayresokum.so
+
+build/%: examples/%.c include/ayresokum.h build/libayresokum.a
+	$(CC) -std=c99 -O2 $(STRICT) -Iinclude -o $@ $< build/libayresokum.a
+
+demo: build/demo
+	@build/demo
+
+examples: build/demo build/whole_frame
+	$(CC) -std=c99 $(STRICT) -fsyntax-only -x c include/ayresokum.h
+	$(CXX) -std=c++17 $(STRICT) -fsyntax-only -x c++ include/ayresokum.h
+	build/whole_frame | cmp - examples/whole_frame.txt
+	build/demo | cmp - examples/demo.txt
+
+test: examples build/libayresokum.so
+	python3 compare/calls.py
+	! command -v cargo > /dev/null || test ! -d rust || (cd rust && AYRESOKUM_LIB=$(CURDIR)/build cargo test --offline --release)
+
+clean:
+	rm -rf build

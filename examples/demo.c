@@ -1,0 +1,137 @@
+/* A temper-colour ramp is converted and checked; then rows of the frame before are left in the planes, and the check finds them.
+ * What is printed answers the auditor's three questions. */
+#include <ayresokum.h>
+#include <stdio.h>
+#include <string.h>
+
+#define WIDTH 64
+#define HEIGHT 16
+
+/* Steel as it is tempered, from pale straw to grey blue, in 10 bits. */
+static const uint16_t TEMPER[8][3] = {
+    { 980, 912, 680 }, { 936, 800, 436 }, { 848, 632, 260 }, { 640, 400, 200 },
+    { 500, 250, 330 }, { 330, 230, 560 }, { 250, 400, 700 }, { 520, 620, 690 }
+};
+
+#define LUMA (HEIGHT * WIDTH)
+#define CHROMA (HEIGHT / 2 * WIDTH)
+
+static uint16_t source[HEIGHT * WIDTH * 3];
+static uint16_t luma[LUMA], chroma[CHROMA];                 /* as recorded */
+static uint16_t written_luma[LUMA], written_chroma[CHROMA]; /* as convert wrote them */
+static uint16_t before_luma[LUMA], before_chroma[CHROMA];   /* of the frame before */
+
+static const ayresokum_frame FRAME = { WIDTH, HEIGHT, WIDTH * 3, WIDTH, WIDTH };
+static const ayresokum_settings SETTINGS = {
+    10, 13, AYRESOKUM_BT709, 0, 0, AYRESOKUM_LIMITED, AYRESOKUM_YUV420,
+    AYRESOKUM_UV, AYRESOKUM_LEAST_SIGNIFICANT, AYRESOKUM_LITTLE_ENDIAN, AYRESOKUM_RGB
+};
+
+/* The ramp from left to right, moved by some columns, a little darker from row to row. */
+static void draw(unsigned moved)
+{
+    unsigned row, column, channel;
+    for (row = 0; row < HEIGHT; row++)
+        for (column = 0; column < WIDTH; column++) {
+            unsigned at = (column + moved) % WIDTH * 7, step = at / WIDTH, part = at % WIDTH;
+            for (channel = 0; channel < 3; channel++) {
+                unsigned here = TEMPER[step][channel], next = TEMPER[step + 1][channel];
+                unsigned level = (here * (WIDTH - part) + next * part) / WIDTH;
+                source[(row * WIDTH + column) * 3 + channel] = (uint16_t)(level - row);
+            }
+        }
+}
+
+static ayresokum_checked check(void)
+{
+    return ayresokum_check(SETTINGS, FRAME, source, sizeof source / sizeof *source, luma, LUMA, chroma, CHROMA);
+}
+
+static void tell(ayresokum_checked c)
+{
+    if (c.refusal)
+        printf("refused, number %u\n", (unsigned)c.refusal);
+    else if (c.wrong)
+        printf("wrong: %s, row %u, element %u\n", c.plane == AYRESOKUM_LUMA ? "luma" : "chroma", (unsigned)c.row, (unsigned)c.element);
+    else
+        printf("accepted\n");
+}
+
+/* Some rows of a plane as another has them. */
+static void copy_rows(uint16_t *plane, const uint16_t *other, unsigned first, unsigned count)
+{
+    memcpy(plane + first * WIDTH, other + first * WIDTH, count * WIDTH * sizeof *plane);
+}
+
+/* Each row that the check names is put right, until it accepts. */
+static void name_rows(void)
+{
+    ayresokum_checked c = check();
+    printf("1. Which rows of this frame were truly written?\n");
+    printf("   Not these, as the check names them one after the other, each put right before the next:\n");
+    while (c.refusal == 0 && c.wrong) {
+        printf("     ");
+        tell(c);
+        if (c.plane == AYRESOKUM_LUMA)
+            copy_rows(luma, written_luma, c.row, 1);
+        else
+            copy_rows(chroma, written_chroma, c.row, 1);
+        c = check();
+    }
+    printf("   All others: ");
+    tell(c);
+}
+
+static double apart(double a, double b)
+{
+    return a > b ? a - b : b - a;
+}
+
+/* The luma of one pixel by the published formula, its exact value, and how far the codes lie from it. */
+static void explain(unsigned row, unsigned column)
+{
+    const ayresokum_settled w = ayresokum_settle(SETTINGS);
+    const uint16_t *p = source + (row * WIDTH + column) * 3;
+    const unsigned stored = written_luma[row * WIDTH + column], left = before_luma[row * WIDTH + column];
+    const long sum = (long)p[0] * w.yr + (long)p[1] * w.yg + (long)p[2] * w.yb + 64 * 8192L + 4095;
+    const double exact = 64 + (2126.0 * p[0] + 7152.0 * p[1] + 722.0 * p[2]) * 876 / (10000.0 * 1023);
+    printf("2. Which published formula gives this code from that pixel?\n");
+    printf("   Bt709 of Rec. ITU-T H.273: Kr 0.2126, Kb 0.0722, here in weights of 2^-13.\n");
+    printf("   Row %u, column %u has R %u, G %u, B %u:\n", row, column, p[0], p[1], p[2]);
+    printf("   (%u*%ld + %u*%ld + %u*%ld + 64*2^13 + 2^12 - 1) / 2^13, rounded down, is %ld. Convert stored %u.\n",
+           p[0], (long)w.yr, p[1], (long)w.yg, p[2], (long)w.yb, sum / 8192, stored);
+    printf("3. How far can a stored code lie from the formula's exact value?\n");
+    printf("   At most 1/2 + 153*1023/(100*2^13) codes, that is %.3f.\n", 0.5 + 153.0 * 1023 / 819200);
+    printf("   Here the exact value is %.3f: %u lies %.3f away; the %u left over lay %.3f away.\n",
+           exact, stored, apart(exact, stored), left, apart(exact, left));
+}
+
+/* Draws and converts a frame; 0 for done. */
+static uint32_t record(unsigned moved)
+{
+    draw(moved);
+    return ayresokum_convert(SETTINGS, FRAME, source, sizeof source / sizeof *source, luma, LUMA, chroma, CHROMA);
+}
+
+int main(void)
+{
+    printf("A temper-colour ramp, %d x %d, 10 bits, limited range, 4:2:0, P = 13.\n\n", WIDTH, HEIGHT);
+    if (record(9) != AYRESOKUM_DONE)
+        return 1;
+    memcpy(before_luma, luma, sizeof luma);
+    memcpy(before_chroma, chroma, sizeof chroma);
+    if (record(0) != AYRESOKUM_DONE)
+        return 1;
+    memcpy(written_luma, luma, sizeof luma);
+    memcpy(written_chroma, chroma, sizeof chroma);
+    printf("Converted. Check: ");
+    tell(check());
+    copy_rows(luma, before_luma, 6, 4);
+    copy_rows(chroma, before_chroma, 3, 2);
+    printf("Luma rows 6 to 9 and chroma rows 3 and 4 left over from the frame before. Check: ");
+    tell(check());
+    printf("\n");
+    name_rows();
+    explain(6, 0);
+    return 0;
+}

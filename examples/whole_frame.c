@@ -1,0 +1,35 @@
+/* Document 01's whole frame: red, blue, white at 10 bits, 4:2:0, planes filled with 7 before. */
+#include <ayresokum.h>
+#include <stdio.h>
+
+static void print(const char *name, const uint16_t *plane, size_t length)
+{
+    size_t i;
+    printf("%s", name);
+    for (i = 0; i < length; i++)
+        printf(" %u", (unsigned)plane[i]);
+    printf("\n");
+}
+
+int main(void)
+{
+    const ayresokum_settings settings = {
+        10, 13, AYRESOKUM_BT601, 0, 0, AYRESOKUM_FULL, AYRESOKUM_YUV420,
+        AYRESOKUM_UV, AYRESOKUM_LEAST_SIGNIFICANT, AYRESOKUM_LITTLE_ENDIAN, AYRESOKUM_RGB
+    };
+    const ayresokum_frame frame = { 3, 1, 9, 4, 6 };
+    const uint16_t source[9] = { 1023, 0, 0, 0, 0, 1023, 1023, 1023, 1023 };
+    uint16_t luma[4] = { 7, 7, 7, 7 };
+    uint16_t chroma[6] = { 7, 7, 7, 7, 7, 7 };
+    ayresokum_checked checked;
+    uint32_t refusal = ayresokum_convert(settings, frame, source, 9, luma, 4, chroma, 6);
+    if (refusal != AYRESOKUM_DONE) {
+        printf("refusal %u\n", (unsigned)refusal);
+        return 1;
+    }
+    print("luma", luma, 4);
+    print("chroma", chroma, 6);
+    checked = ayresokum_check(settings, frame, source, 9, luma, 4, chroma, 6);
+    printf("check: %s\n", checked.refusal == 0 && checked.wrong == 0 ? "accepted" : "not accepted");
+    return 0;
+}

@@ -1,0 +1,149 @@
+/* ayresokum.h - convert a frame of RGB samples to bi-planar YUV, and check a recorded one
+ *
+ * SYNOPSIS
+ *   #include <ayresokum.h>
+ *   cc program.c libayresokum.a        or        cc program.c -layresokum
+ *
+ * DESCRIPTION
+ *   10 to 16 bit RGB, RGBA, BGRA or BGR to a luma plane and a chroma plane, 4:2:0, 4:2:2 or 4:4:4, after the 16-bit path of
+ *   the Rust crate yuvutils-rs 0.8.3. Every function is proved to answer every input as the project's rules say: the first refusal
+ *   that applies, with nothing touched, or the whole result.
+ *
+ *   ayresokum_settle works out the nine integer weights of settings. ayresokum_convert settles, converts a frame and writes
+ *   both planes. ayresokum_check settles and judges two planes from any converter against the source: each visible sample by its exact
+ *   fraction and the tolerance 1/2 + 153*m/(100*2^P) codes, one half more for chroma of two or four pixels.
+ *
+ * REFUSALS
+ *   Each call gives the first that applies; 0 is none. After a refusal no element of either plane has changed.
+ *      1  depth is not 10 to 16
+ *      2  precision P is not 1 to 13
+ *      3  custom pair: kr, kb and 1 - kr - kb are not all above 0; not-a-number counts as failing
+ *      4  a weight is more than 51/100 from 2^P times its exact fraction (proved never to be given)
+ *      5  a code would lie outside 0 to m: of white, full blue, yellow, red or cyan
+ *      6  ayresokum_check only: the matrix is custom
+ *      7  width or height is 0 or over 16384
+ *      8  a stride is shorter than its visible row or over 65536
+ *      9  a length is not exactly stride * rows
+ *     10  a visible colour sample of the source is over m = 2^depth - 1
+ *     18  a number of the settings names no case of its enumeration; given before all others
+ *
+ * BUFFERS
+ *   All lengths and strides count uint16_t elements. source: height rows of pixels, 3 or 4 samples each. luma: height rows of
+ *   width. chroma: U and V side by side, 2*width (4:4:4) or width rounded up to even; height rows, or half of them rounded up at
+ *   4:2:0. Elements past the visible ones of a row are never written, never judged, and in the source never read.
+ *   The caller guarantees that each pointer is aligned and good for its length, also where that is 0 (then any aligned pointer
+ *   that is not NULL will do), and that luma and chroma overlap neither each other nor the source while they are written.
+ *
+ * THREADS
+ *   There is no state at all: any number of calls may run at once on buffers of their own.
+ */
+#ifndef AYRESOKUM_H
+#define AYRESOKUM_H
+
+#include <stddef.h>
+#include <stdint.h>
+
+#ifdef __cplusplus
+extern "C" {
+#endif
+
+enum ayresokum_matrix {
+    AYRESOKUM_BT601 = 0,
+    AYRESOKUM_BT709 = 1,
+    AYRESOKUM_BT2020 = 2,
+    AYRESOKUM_SMPTE240 = 3,
+    AYRESOKUM_BT470_6 = 4,
+    AYRESOKUM_CUSTOM = 5 /* kr and kb of the settings */
+};
+
+enum ayresokum_range { AYRESOKUM_LIMITED = 0, AYRESOKUM_FULL = 1 };
+
+enum ayresokum_subsampling { AYRESOKUM_YUV420 = 0, AYRESOKUM_YUV422 = 1, AYRESOKUM_YUV444 = 2 };
+
+enum ayresokum_order { AYRESOKUM_UV = 0, AYRESOKUM_VU = 1 };
+
+enum ayresokum_packing { AYRESOKUM_MOST_SIGNIFICANT = 0, AYRESOKUM_LEAST_SIGNIFICANT = 1 };
+
+enum ayresokum_byte_order { AYRESOKUM_BIG_ENDIAN = 0, AYRESOKUM_LITTLE_ENDIAN = 1 };
+
+enum ayresokum_channels { AYRESOKUM_RGB = 0, AYRESOKUM_RGBA = 1, AYRESOKUM_BGRA = 2, AYRESOKUM_BGR = 3 };
+
+enum ayresokum_refusal {
+    AYRESOKUM_DONE = 0,
+    AYRESOKUM_DEPTH = 1,
+    AYRESOKUM_PRECISION = 2,
+    AYRESOKUM_CUSTOM_PAIR = 3,
+    AYRESOKUM_WEIGHT_OFF = 4,
+    AYRESOKUM_CODE_OUTSIDE = 5,
+    AYRESOKUM_CUSTOM_UNCHECKED = 6,
+    AYRESOKUM_SIZE = 7,
+    AYRESOKUM_STRIDE = 8,
+    AYRESOKUM_LENGTH = 9,
+    AYRESOKUM_TOO_LARGE = 10,
+    AYRESOKUM_UNNAMED = 18
+};
+
+enum ayresokum_plane { AYRESOKUM_LUMA = 0, AYRESOKUM_CHROMA = 1 };
+
+/* Numbers of the enumerations above; kr and kb are read for AYRESOKUM_CUSTOM alone. */
+typedef struct ayresokum_settings {
+    uint32_t depth;     /* 10 to 16 */
+    uint32_t precision; /* P, 1 to 13; 13 for a check that says much */
+    uint32_t matrix;
+    float kr;
+    float kb;
+    uint32_t range;
+    uint32_t subsampling;
+    uint32_t order;
+    uint32_t packing;
+    uint32_t byte_order;
+    uint32_t channels;
+} ayresokum_settings;
+
+/* Width and height in pixels, strides in elements. */
+typedef struct ayresokum_frame {
+    size_t width;
+    size_t height;
+    size_t source_stride;
+    size_t luma_stride;
+    size_t chroma_stride;
+} ayresokum_frame;
+
+/* The nine weights, times 2^P; all 0 on a refusal. */
+typedef struct ayresokum_settled {
+    uint32_t refusal;
+    int32_t yr, yg, yb;
+    int32_t cb_r, cb_g, cb_b;
+    int32_t cr_r, cr_g, cr_b;
+} ayresokum_settled;
+
+/* Refusal 0 and wrong 0: accepted. Wrong 1: plane, row and element of the first wrong sample, luma row by row, then chroma element by
+ * element, counted from 0. What does not apply is 0. */
+typedef struct ayresokum_checked {
+    uint32_t refusal;
+    uint32_t wrong;
+    uint32_t plane;
+    uint32_t row;
+    uint32_t element;
+} ayresokum_checked;
+
+/* The weights of settings, or a refusal: 1 to 5 or 18. */
+ayresokum_settled ayresokum_settle(ayresokum_settings settings);
+
+/* Converts a frame: 0 with both planes written, or a refusal (1 to 5, 7 to 10 or 18) with both as they were. */
+uint32_t ayresokum_convert(ayresokum_settings settings, ayresokum_frame frame,
+                           const uint16_t *source, size_t source_length,
+                           uint16_t *luma, size_t luma_length,
+                           uint16_t *chroma, size_t chroma_length);
+
+/* Checks two planes, from any converter, against the source. Writes nothing. */
+ayresokum_checked ayresokum_check(ayresokum_settings settings, ayresokum_frame frame,
+                                  const uint16_t *source, size_t source_length,
+                                  const uint16_t *luma, size_t luma_length,
+                                  const uint16_t *chroma, size_t chroma_length);
+
+#ifdef __cplusplus
+}
+#endif
+
+#endif
