@@ -17,13 +17,12 @@ use Rattle.rules.specs.Channels.{Picture, picture}
 use Rattle.rules.specs.Matrices.{matrixOf}
 use Rattle.rules.specs.Blocks.{chromaWidth, chromaHeight}
 use Rattle.rules.specs.Refusals.{first}
-use Rattle.rules.specs.Frames.{frameLines}
 use Rattle.rules.specs.Settle.{settleLines}
 use Rattle.rules.specs.Check.{Test, JudgedPlace, ByMatrix, ByVerdict, checkLines, Answers}
 use Rattle.rule_laws.proofs.Refusals.{parted, passed}
 use Rattle.samples.proofs.Tiles.{width-small, height-small}
 use Rattle.frames.specs.Tests.{Sized}
-use Rattle.frames.proofs.Tests.{sized}
+use Rattle.frames.proofs.Tests.{ready}
 use Rattle.ayresokum.specs.Places.{Placed}
 
 module _ (s : Settings) (f : Frame) (source luma chroma : List ℕ) where
@@ -32,7 +31,7 @@ module _ (s : Settings) (f : Frame) (source luma chroma : List ℕ) where
   unrefused h =
       let after-settle = parted (settleLines s) _ h .1 in
       let after-matrix = passed _ _ after-settle .1 in
-      sized f (passed _ _ after-matrix .0)
+      ready s f source (length luma) (length chroma) after-matrix .sized
 
   in-plane : (y : Test) (c : Test) (n row e : ℕ) → Sized f →
       JudgedPlace y (f .width) (f .height) c (chromaWidth (s .subsampling) (f .width)) (chromaHeight (s .subsampling) (f .height)) n row e →

@@ -1,9 +1,10 @@
 -- THE THEOREM OF THE WORK: for any settings with a named matrix, any frame, source and planes, if convert says done, then check of what
 -- it wrote accepts. Stated over the two promises, for all subsamplings, orders, packings and byte orders. Assumes nothing.
-use mathlib.Core.Path.{_≡_, sym, ap, _∙_, subst}
+use mathlib.Core.Path.{_≡_, refl, sym, ap, _∙_, subst}
 use mathlib.Core.Bool.{true}
-use mathlib.Core.List.{List, [], _∷_}
-use Prim.Native.Nat.{ℕ, _*_, _≤_, _<_}
+use mathlib.Core.List.{List, _∷_}
+use Prim.Native.Nat.{ℕ, _<_}
+use native.Mathlib.Omega.{arith}
 use lib.ListN.{length}
 use Rattle.rules.specs.declared.Settings.{Settings}
 use Rattle.rules.specs.declared.Frame.{Frame}
@@ -14,39 +15,38 @@ use Rattle.rules.specs.declared.Settled.the-variants.{Weighed}
 use Rattle.rules.specs.declared.Converted.the-variants.{Done}
 use Rattle.rules.specs.declared.Checked.{Checked}
 use Rattle.rules.specs.declared.Checked.the-variants.{Accepted}
-use Rattle.rules.specs.declared.Refusal.the-variants.{CustomUnchecked, Size, Stride, Length, TooLarge}
+use Rattle.rules.specs.declared.Refusal.the-variants.{CustomUnchecked}
 use Rattle.rules.specs.Ranges.{most}
 use Rattle.rules.specs.Channels.{Picture, isU, picture}
 use Rattle.rules.specs.Matrices.{matrixOf}
 use Rattle.rules.specs.Weights.{weightsOf}
 use Rattle.rules.specs.Blocks.{chromaWidth, chromaHeight}
 use Rattle.rules.specs.declared.Verdict.{Verdict}
-use Rattle.rules.specs.declared.Verdict.the-variants.{Passes}
-use Rattle.rules.specs.Refusals.{Line, line, first}
+use Rattle.rules.specs.declared.Verdict.the-variants.{Passes, Refuses}
+use Rattle.rules.specs.Refusals.{line, first}
 use Rattle.rules.specs.Settle.{settleLines, settle}
-use Rattle.rules.specs.Frames.{sizeOff, strideOff, lengthOff, isFound, tooLargeAt, frameLines}
-use Rattle.rules.specs.Convert.{kept, verdict, lumaWord, chromaWord, lumaWritten, chromaWritten, convert, lumaAfter, chromaAfter}
+use Rattle.rules.specs.Frames.{frameLines}
+use Rattle.rules.specs.Convert.{answer, kept, verdict, lumaWord, chromaWord, lumaWritten, chromaWritten, convert, lumaAfter, chromaAfter}
 use Rattle.rules.specs.Check.{isCustom, lumaRight, chromaRight, Clean, lumaTest, chromaTest, checkLines, Answers}
 use Rattle.rule_laws.specs.Codes.{Low}
-use Rattle.rule_laws.proofs.Refusals.{skip}
+use Rattle.rule_laws.proofs.Refusals.{skip, parted, passed-on}
+use Rattle.plane_laws.proofs.Planes.{length-plane, written-at}
 use Rattle.tolerance_laws.proofs.Blocks.{block-at}
 use Rattle.settle.proofs.Verdicts.{weighed}
+use Rattle.frames.specs.Rows.{Rows}
+use Rattle.frames.proofs.Tests.{ready}
 use Rattle.frame_check.proofs.Unique.{one-answer, accepted-iff}
-use Rattle.check_theorem.proofs.Lines.{framed, verdict-passes}
-use Rattle.rule_laws.proofs.Refusals.{parted, passed-on}
-use Rattle.check_theorem.proofs.Lowness.{low-all}
-use Rattle.check_theorem.proofs.Written.{written-long, written-at}
 use Rattle.check_theorem.proofs.Words.{luma-word-right, chroma-word-right}
 
 -- ---- planes that a low picture was written into are clean
 module _ (s : Settings) (k : Named) (w : Weights) (named : matrixOf (s .matrix) ≡ Tabled k) (accepted : settle s ≡ Weighed w)
     (f : Frame) (px : Picture) (low : (row column : ℕ) → row < f .height → column < f .width → Low (most (s .depth)) (px row column)) where
-  luma-clean : (luma : List ℕ) → f .width ≤ f .«luma_stride» → length luma ≡ f .height * f .«luma_stride» →
+  luma-clean : (luma : List ℕ) → Rows (length luma) (f .«luma_stride») (f .width) (f .height) →
       Clean (lumaTest s k f px (lumaWritten s w f px luma)) (f .width) (f .height)
-  luma-clean luma c l =
+  luma-clean luma l =
       record {
         clean = λ row e h b.
-            ap (lumaRight s k px row e) (written-at (f .«luma_stride») (f .width) (f .height) (lumaWord s w px) luma row e h b c l)
+            ap (lumaRight s k px row e) (written-at (f .«luma_stride») (f .width) (lumaWord s w px) luma (f .height) row e h b (l .covers) (l .fits row h))
             ∙ luma-word-right s k w named accepted (low row e h b);
       }
 
@@ -56,31 +56,27 @@ module _ (s : Settings) (k : Named) (w : Weights) (named : matrixOf (s .matrix) 
   word-right row e h b =
       chroma-word-right s k w named accepted (isU (s .order) e) (block-at (most (s .depth)) (f .width) (f .height) px low (s .subsampling) row e h b)
 
-  chroma-clean : (chroma : List ℕ) → chromaWidth (s .subsampling) (f .width) ≤ f .«chroma_stride» → length chroma ≡ chromaHeight (s .subsampling) (f .height) * f .«chroma_stride» →
+  chroma-clean : (chroma : List ℕ) → Rows (length chroma) (f .«chroma_stride») (chromaWidth (s .subsampling) (f .width)) (chromaHeight (s .subsampling) (f .height)) →
       Clean (chromaTest s k f px (chromaWritten s w f px chroma)) (chromaWidth (s .subsampling) (f .width)) (chromaHeight (s .subsampling) (f .height))
-  chroma-clean chroma c l =
+  chroma-clean chroma l =
       record {
         clean = λ row e h b.
             ap (chromaRight s k (f .width) (f .height) px row e)
-            (written-at (f .«chroma_stride») (chromaWidth (s .subsampling) (f .width)) (chromaHeight (s .subsampling) (f .height)) (chromaWord s w (f .width) (f .height) px) chroma row e h b c l)
+            (written-at (f .«chroma_stride») (chromaWidth (s .subsampling) (f .width)) (chromaWord s w (f .width) (f .height) px) chroma (chromaHeight (s .subsampling) (f .height)) row e h b (l .covers) (l .fits row h))
             ∙ word-right row e h b;
       }
 
--- the frame's lines, which of the planes see the lengths only
-abbrev linesBy : Settings → Frame → List ℕ → ℕ → ℕ → List Line
-linesBy s f source luma chroma =
-    line Size (sizeOff f) ∷
-    line Stride (strideOff s f) ∷
-    line Length (lengthOff s f (length source) luma chroma) ∷
-    line TooLarge (isFound (tooLargeAt (most (s .depth)) f (picture (s .channels) (f .«source_stride») source))) ∷
-    []
+passes : (v : Verdict) → answer v ≡ Done → v ≡ Passes
+passes Passes e = refl
+passes (Refuses r) e = absurd (let z : _≡_ {A = ℕ} 0 1 = cc in omega arith)
 
 module _ (s : Settings) (k : Named) (named : matrixOf (s .matrix) ≡ Tabled k) (f : Frame) (source luma chroma : List ℕ) (done : convert s f source luma chroma ≡ Done) where
   px : Picture
   px = picture (s .channels) (f .«source_stride») source
 
   passed : verdict s f source luma chroma ≡ Passes
-  passed = verdict-passes s f source luma chroma done
+  unfolding convert
+  passed = passes (verdict s f source luma chroma) done
 
   -- what convert left in the planes
   luma-is : lumaAfter s f source luma chroma ≡ lumaWritten s (weightsOf s) f px luma
@@ -97,24 +93,24 @@ module _ (s : Settings) (k : Named) (named : matrixOf (s .matrix) ≡ Tabled k) 
   -- check's lines are convert's with refusal 6 in between, and a plane keeps its length
   unrefused : first (checkLines s f source (lumaAfter s f source luma chroma) (chromaAfter s f source luma chroma)) ≡ Passes
   unrefused =
-      let y : length (lumaAfter s f source luma chroma) ≡ length luma = ap length luma-is ∙ written-long _ _ _ _ luma in
-      let c : length (chromaAfter s f source luma chroma) ≡ length chroma = ap length chroma-is ∙ written-long _ _ _ _ chroma in
+      let y : length (lumaAfter s f source luma chroma) ≡ length luma = ap length luma-is ∙ length-plane _ _ _ luma _ in
+      let c : length (chromaAfter s f source luma chroma) ≡ length chroma = ap length chroma-is ∙ length-plane _ _ _ chroma _ in
       passed-on (settleLines s) (line CustomUnchecked (isCustom (matrixOf (s .matrix))) ∷ frameLines s f source (length (lumaAfter s f source luma chroma)) (length (chromaAfter s f source luma chroma)))
       (tables .0)
-      ∙ (skip _ _ (ap isCustom named) ∙ (λ i. first (linesBy s f source (y i) (c i))) ∙ tables .1)
+      ∙ (skip _ _ (ap isCustom named) ∙ (λ i. first (frameLines s f source (y i) (c i))) ∙ tables .1)
 
   -- THE THEOREM
   pub accepts : Answers s f source (lumaAfter s f source luma chroma) (chromaAfter s f source luma chroma) Accepted
   unfolding px
   accepts =
-      let g = framed s f source luma chroma (tables .1) in
+      let g = ready s f source (length luma) (length chroma) (tables .1) in
       let w = sym (weighed s (tables .0)) in
-      let low = low-all (most (s .depth)) f px (g .low) in
+      let low : (row column : ℕ) → row < f .height → column < f .width → Low (most (s .depth)) (px row column) = λ row column h l. g .low .low row h .low column l in
       accepted-iff s f source (lumaAfter s f source luma chroma) (chromaAfter s f source luma chroma) k unrefused named .1 (
         subst (λ (y : List ℕ). Clean (lumaTest s k f px y) (f .width) (f .height)) (sym luma-is)
-            (luma-clean s k (weightsOf s) named w f px low luma (g .luma-covers) (g .luma-long)),
+            (luma-clean s k (weightsOf s) named w f px low luma (g .laid .luma)),
         subst (λ (c : List ℕ). Clean (chromaTest s k f px c) (chromaWidth (s .subsampling) (f .width)) (chromaHeight (s .subsampling) (f .height))) (sym chroma-is)
-            (chroma-clean s k (weightsOf s) named w f px low chroma (g .chroma-covers) (g .chroma-long)),
+            (chroma-clean s k (weightsOf s) named w f px low chroma (g .laid .chroma)),
       )
 
   -- and accepting is the one answer that check's promise admits there

@@ -1,5 +1,2 @@
-pub mod Lines
-pub mod Lowness
-pub mod Written
 pub mod Words
 pub mod Accepts

@@ -1,28 +1,32 @@
 -- What the tests of a frame leave. Assumes nothing.
 use mathlib.Core.Path.{_≡_, refl, ap}
+use mathlib.Core.List.{List}
 use mathlib.Core.Bool.{Bool, true, false, not, _||_, cond, true≢false}
 use Prim.Native.Nat.{ℕ, _*_, _≤_, _<_}
 use native.Mathlib.Nat.{mul-le-mul}
 use native.Mathlib.Omega.{arith}
 use lib.Dec.{eqb, ltb}
+use lib.ListN.{length}
 use borrow.Author.Tests.{eqb-true, ltb-false, not-false}
 use Rattle.rules.specs.declared.Settings.{Settings}
 use Rattle.rules.specs.declared.Frame.{Frame}
 use Rattle.rules.specs.declared.Pixel.{Pixel}
 use Rattle.rules.specs.declared.Search.{Search}
 use Rattle.rules.specs.declared.Search.the-variants.{Nothing}
-use Rattle.rules.specs.Channels.{Picture, count}
+use Rattle.rules.specs.Ranges.{most}
+use Rattle.rules.specs.Channels.{Picture, count, picture}
 use Rattle.rules.specs.Blocks.{chromaWidth, chromaHeight}
-use Rattle.rules.specs.Refusals.{outside}
-use Rattle.rules.specs.Frames.{sizeOff, strideOff, lengthOff, place, firstBelow, highAt, tooLargeAt, isFound}
+use Rattle.rules.specs.declared.Verdict.the-variants.{Passes}
+use Rattle.rules.specs.Refusals.{outside, first}
+use Rattle.rules.specs.Frames.{sizeOff, strideOff, lengthOff, place, firstBelow, highAt, tooLargeAt, isFound, frameLines}
 use Rattle.rule_laws.specs.Codes.{Low}
-use Rattle.rule_laws.proofs.Refusals.{bounds}
+use Rattle.rule_laws.proofs.Refusals.{bounds, passed}
 use Rattle.plane_laws.proofs.Tests.{neither}
 use Rattle.plane_laws.proofs.Tables.{step-le}
 use Rattle.plane_laws.proofs.Firsts.{not-found, none-at}
 use Rattle.samples.proofs.Tiles.{width-some}
 use Rattle.frames.specs.Rows.{Rows, LowPicture}
-use Rattle.frames.specs.Tests.{Sized, Strided, Laid}
+use Rattle.frames.specs.Tests.{Sized, Strided, Laid, Ready}
 use Rattle.frames.proofs.Places.{places}
 
 pub sized : (f : Frame) → sizeOff f ≡ false → Sized f
@@ -83,3 +87,16 @@ low-picture m f px h =
     let row-search : ℕ → Search = λ row. firstBelow (f .width) (λ x. highAt m row x (px row x)) in
     let none = none-at row-search (f .height) (not-found (firstBelow (f .height) row-search) h) in
     record { low = λ row b. record { low = λ x l. low-pixel m row x (px row x) (none-at (λ x. highAt m row x (px row x)) (f .width) (none row b) x l) } }
+
+-- ---- a frame that no refusal meets can be converted
+pub ready : (s : Settings) (f : Frame) (source : List ℕ) (luma chroma : ℕ) → first (frameLines s f source luma chroma) ≡ Passes → Ready s f source luma chroma
+ready s f source luma chroma h =
+    let size = passed _ _ h in
+    let stride = passed _ _ (size .1) in
+    let long = passed _ _ (stride .1) in
+    let z = sized f (size .0) in
+    record {
+      sized = z;
+      laid = laid s f (length source) luma chroma z (strided s f (stride .0)) (long .0);
+      low = low-picture (most (s .depth)) f (picture (s .channels) (f .«source_stride») source) (passed _ _ (long .1) .0);
+    }

@@ -4,7 +4,7 @@ use mathlib.Core.Logic.{_⊎_, inl, inr}
 use mathlib.Core.Bool.{Bool, true, false, _&&_, cond}
 use mathlib.Core.List.{List, _++_}
 use Prim.Native.Nat.{ℕ, _+_, _-_, _*_, _/_, _%_, _≤_, _<_}
-use native.Mathlib.Nat.{add-mul, div-add-mod', div-lt-iff-lt-mul, div-eq-of-lt, mod-eq-of-lt, mul-le-mul-right, mul-add-div-right, mul-add-mod-self-right}
+use native.Mathlib.Nat.{add-zero, add-mul, div-add-mod', div-lt-iff-lt-mul, div-eq-of-lt, mod-eq-of-lt, mul-le-mul-right, mul-add-div-right, mul-add-mod-self-right}
 use native.Mathlib.Omega.{arith}
 use borrow.Author.Tests.{lt-ltb, le-ltb}
 use lib.Dec.{ltb}
@@ -79,6 +79,16 @@ module _ (st w : ℕ) (f : ℕ → ℕ → ℕ) (old : List ℕ) where
 
   pub below : (n k : ℕ) → n ≤ k / st → element st w n f old k ≡ getD old k 0
   below n k h = by n k (ltb (k % st) w) false refl (le-ltb _ _ h) ∙ and-false (ltb (k % st) w) (f (k / st) (k % st)) (getD old k 0)
+
+  -- the element of a written row
+  pub written-at : (n row column : ℕ) → row < n → column < w → w ≤ st → row * st + w ≤ length old → getD (written st w n f old) (row * st + column) 0 ≡ f row column
+  written-at n row column h l c fits =
+      let k = row * st + column in
+      let b : column < st = omega arith in
+      let some : 0 < st = omega arith in
+      let q : k / st ≡ row = mul-add-div-right some row column ∙ ap (λ (i : ℕ). row + i) (div-eq-of-lt b) ∙ add-zero row in
+      let r : k % st ≡ column = mul-add-mod-self-right row st column ∙ mod-eq-of-lt b in
+      plane-at n k (omega arith) ∙ shown n k (omega arith) (omega arith) ∙ (λ i. f (q i) (r i))
 
   -- no row is written yet
   pub plane-none : old ≡ written st w 0 f old
