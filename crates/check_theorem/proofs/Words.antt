@@ -1,16 +1,11 @@
 -- The words that convert writes are right. Assumes nothing.
-use mathlib.Core.Path.{_≡_, sym, _∙_, subst}
-use mathlib.Core.Bool.{Bool, true, false, _&&_}
+use mathlib.Core.Path.{_≡_, _∙_}
+use mathlib.Core.Bool.{Bool, true, _&&_}
 use mathlib.Core.List.{List, [], _∷_}
 use Prim.Native.Nat.{ℕ, _≤_}
-use lib.Dec.{T}
-use lib.Ieee.{binary32, fits}
-use lib.Ieee.Fits.{round-fits}
 use lib.IntN.{pos}
 use Rattle.rules.specs.declared.Settings.{Settings}
-use Rattle.rules.specs.declared.YuvStandardMatrix.{YuvStandardMatrix}
 use Rattle.rules.specs.declared.Named.{Named}
-use Rattle.rules.specs.declared.Matrix.{Matrix}
 use Rattle.rules.specs.declared.Matrix.the-variants.{Tabled}
 use Rattle.rules.specs.declared.Weights.{Weights}
 use Rattle.rules.specs.declared.Settled.the-variants.{Weighed}
@@ -18,7 +13,7 @@ use Rattle.rules.specs.declared.Pixel.{Pixel}
 use Rattle.rules.specs.declared.Triple.{Triple}
 use Rattle.rules.specs.Ranges.{most, biasY, biasUV, rangeY, rangeUV}
 use Rattle.rules.specs.Matrices.{matrixOf}
-use Rattle.rules.specs.Weights.{pairOf, lumaRow}
+use Rattle.rules.specs.Weights.{lumaRow}
 use Rattle.rules.specs.Sample.{signedCode, code}
 use Rattle.rules.specs.Blocks.{averaged}
 use Rattle.rules.specs.Fractions.{Fraction, exactLuma, halves, within}
@@ -31,10 +26,8 @@ use Rattle.tolerance_laws.specs.Block.{Block}
 use Rattle.tolerance_laws.specs.Chroma.{chromaRow, exactChroma}
 use Rattle.tolerance_laws.proofs.Means.{averaged-low}
 use Rattle.tolerance_theorem.proofs.Accepted as tolerance
-use Rattle.yuv_support.specs.Held.{Held}
 use Rattle.samples.proofs.Codes.{size, chroma-coded}
 use Rattle.samples.proofs.Words.{reads-back, word-formed}
-use Rattle.settle.proofs.Weighed.{usable}
 
 -- the word of a code from 0 to m that is within the tolerance is right
 right-word : (s : Settings) (bias h : ℕ) (w : Triple) (p : Pixel) (x : Fraction) → s .depth ≤ 16 → Between (pos 0) (pos (most (s .depth))) (signedCode (s .precision) bias w p) →
@@ -48,28 +41,20 @@ right-word s bias h w p x deep b e =
     let back = reads-back (s .packing) (s .endianness) (s .depth) deep l in
     (λ i. formed i && within (s .precision) m h x (back i)) ∙ e
 
--- the floats of a row of the table are rounded, and so 32-bit floats
-held : (m : YuvStandardMatrix) (k : Named) → matrixOf m ≡ Tabled k → Held m
-held m k e =
-    record {
-      kr = subst (λ (x : Matrix). T (fits binary32 (pairOf x .kr))) (sym e) (round-fits binary32 false (k .kr) 10000);
-      kb = subst (λ (x : Matrix). T (fits binary32 (pairOf x .kb))) (sym e) (round-fits binary32 false (k .kb) 10000);
-    }
-
 module _ (s : Settings) (k : Named) (w : Weights) (named : matrixOf (s .matrix) ≡ Tabled k) (accepted : settle s ≡ Weighed w) where
-  good : Usable s w
-  good = usable s w (held (s .matrix) k named) accepted
+  usable : Usable s w
+  usable = tolerance.good s k w named accepted
 
   pub luma-word-right : {p : Pixel} → Low (most (s .depth)) p →
       right s 1 (exactLuma k (most (s .depth)) (biasY (s .range) (s .depth)) (rangeY (s .range) (s .depth)) (p ∷ [])) (wordOf s (biasY (s .range) (s .depth)) (lumaRow w) p) ≡ true
   luma-word-right {p} l =
       right-word s (biasY (s .range) (s .depth)) 1 (lumaRow w) p
-      (exactLuma k (most (s .depth)) (biasY (s .range) (s .depth)) (rangeY (s .range) (s .depth)) (p ∷ [])) (good .reach .deep) (good .luma-coded p l) (tolerance.luma s k w named accepted l)
+      (exactLuma k (most (s .depth)) (biasY (s .range) (s .depth)) (rangeY (s .range) (s .depth)) (p ∷ [])) (usable .reach .deep) (usable .luma-coded p l) (tolerance.luma s k w named accepted l)
 
   -- Cb where u is true, Cr where it is false
   pub chroma-word-right : (u : Bool) {b : List Pixel} → Block (most (s .depth)) b →
       right s (halves b) (exactChroma u k (most (s .depth)) (biasUV (s .depth)) (rangeUV (s .range) (s .depth)) b) (wordOf s (biasUV (s .depth)) (chromaRow u w) (averaged b)) ≡ true
   chroma-word-right u {b} l =
       right-word s (biasUV (s .depth)) (halves b) (chromaRow u w) (averaged b)
-      (exactChroma u k (most (s .depth)) (biasUV (s .depth)) (rangeUV (s .range) (s .depth)) b) (good .reach .deep)
-      (chroma-coded s w u good (averaged b) (averaged-low l)) (tolerance.chroma s k w named accepted u l)
+      (exactChroma u k (most (s .depth)) (biasUV (s .depth)) (rangeUV (s .range) (s .depth)) b) (usable .reach .deep)
+      (chroma-coded s w u usable (averaged b) (averaged-low l)) (tolerance.chroma s k w named accepted u l)

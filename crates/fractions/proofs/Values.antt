@@ -14,7 +14,7 @@ use Rattle.integer_laws.proofs.Differences.{is-pos, is-times, is-as, is-same, i
 use Rattle.tolerance_laws.specs.Block.{Block, one, two, four}
 use Rattle.tolerance_laws.specs.Chroma.{ownK, exactChroma}
 use Rattle.fractions.specs.declared.Sums.{Sums}
-use Rattle.fractions.specs.Sums.{sumsOf, lumaBy, chromaBy, UpToFour}
+use Rattle.fractions.specs.Sums.{sumsOf, lumaBy, ownSum, chromaBy, UpToFour}
 
 -- ---- the numerators
 
@@ -31,10 +31,6 @@ part-alone {plus} {a} e = is-same (is-less plus 0) (is-as (is-pos a) (sym e) ref
 -- luma
 pub luma-of : (k : Named) (m bias range : ℕ) {under : ℕ} (b : List Pixel) → under ≡ 10000 * m → lumaBy k bias range under (sumsOf b) ≡ exactLuma k m bias range b
 luma-of k m bias range b e = λ i. lumaBy k bias range (e i) (sumsOf b)
-
--- the sum of the channel's own
-abbrev pub ownSum : Bool → Sums → ℕ
-ownSum u s = cond u (s .blue) (s .red)
 
 -- Cb or Cr
 pub chroma-of : (u : Bool) (k : Named) (m bias range : ℕ) {under : ℕ} {s : Sums} (b : List Pixel) → s ≡ sumsOf b → under ≡ 2 * (10000 - ownK u k) * length b * m →

@@ -1,5 +1,6 @@
 -- The exact fractions of rules by channel sums and a divisor. Definitions only.
 use Prim.Native.Nat.{ℕ, _+_, _*_, _≤_}
+use mathlib.Core.Bool.{Bool, cond}
 use mathlib.Core.List.{List}
 use lib.IntN.{pos, _-ℤ_, _*ℤ_}
 use Rattle.rules.specs.declared.Named.{Named}
@@ -20,6 +21,10 @@ blend k s = k .kr * s .red + kg k * s .green + k .kb * s .blue
 -- bias + S·range / under: over 10000·m it is rules' exactLuma
 abbrev pub lumaBy : Named → ℕ → ℕ → ℕ → Sums → Fraction
 lumaBy k bias range under s = record { bias = bias; over = pos (blend k s * range); under = under }
+
+-- the sum of the channel's own: blue's for Cb, where u is true, red's for Cr
+abbrev pub ownSum : Bool → Sums → ℕ
+ownSum u s = cond u (s .blue) (s .red)
 
 -- bias + (10000·own − S)·range / under, by the sum of the channel's own: over 2·(10000 − K)·n·m it is rules' exactCb and exactCr
 abbrev pub chromaBy : Named → ℕ → ℕ → ℕ → ℕ → Sums → Fraction

@@ -18,13 +18,13 @@ use Rattle.fractions.specs.declared.Exact.{Exact}
 use Rattle.fractions.specs.declared.Sums.{Sums}
 use Rattle.fractions.specs.Exact.{Exactly}
 use Rattle.fractions.specs.Bound.{distance, boundOf}
-use Rattle.fractions.specs.Sums.{sumsOf, lumaBy, chromaBy}
+use Rattle.fractions.specs.Sums.{sumsOf, lumaBy, ownSum, chromaBy}
 use Rattle.fractions.proofs.Passes.{judged}
 use Rattle.fractions.proofs.Values.{luma-of, chroma-of}
 use Rattle.frame_check.specs.declared.judge.Limit.{Limit}
 use Rattle.frame_check.specs.declared.judge.Judge.{Judge}
 use Rattle.frame_check.specs.Judging.{Judging}
-use Rattle.frame_check.specs.Samples.{rightBy, pixelRight, blockRight, ownLimit, ownSum}
+use Rattle.frame_check.specs.Samples.{rightBy, pixelRight, blockRight, ownLimit}
 use Rattle.frame_check.proofs.Limits.{own-sized}
 
 -- a word is right by the fraction that an exact value stands for

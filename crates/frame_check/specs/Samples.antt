@@ -18,7 +18,6 @@ use Rattle.rules.specs.Check.{right}
 use Rattle.tolerance_laws.specs.Chroma.{exactChroma}
 use Rattle.samples.specs.Tiles.{leftOf, wideAt, tiles}
 use Rattle.fractions.specs.declared.Exact.{Exact}
-use Rattle.fractions.specs.declared.Sums.{Sums}
 use Rattle.fractions.specs.Bound.{distance}
 use Rattle.frames.specs.Rows.{rowPixel}
 use Rattle.frame_check.specs.declared.judge.Limit.{Limit}
@@ -50,10 +49,6 @@ limitFor l true true = l .four
 
 abbrev pub ownLimit : Judge → Bool → Bool → Bool → Limit
 ownLimit j u wide two = cond u (limitFor (j .cb) wide two) (limitFor (j .cr) wide two)
-
--- the sum of the channel's own: blue's for Cb, red's for Cr
-abbrev pub ownSum : Bool → Sums → ℕ
-ownSum u b = cond u (b .blue) (b .red)
 
 -- a block's columns lie in a row
 pub record Fitting (width : ℕ) (t : Tile) : Type 0 where

@@ -50,7 +50,8 @@ module _ (s : Settings) (k : Named) (w : Weights) (named : matrixOf (s .matrix) 
       let p = passed s w accepted in
       named-near s w named (p .0 .shallow) (p .0 .coarse) (subst (λ (v : Weights). weightOff s (matrixOf (s .matrix)) v ≡ false) (p .1) (p .0 .near))
 
-  good : Usable s w
+  -- what settle hands out for a named matrix is usable
+  pub good : Usable s w
   good = usable s w (held (s .matrix) k named) accepted
 
   chroma-low : (u : Bool) (p : Pixel) → Low (most (s .depth)) p → T (leZ (pos 0) (signedCode (s .precision) (biasUV (s .depth)) (chromaRow u w) p))
