@@ -1,0 +1,21 @@
+#!/usr/bin/env bash
+# bench/run.sh FOLDER: times the published loops of yuvutils-rs 0.8.3 beside the proved library, and prints a table.
+# FOLDER has the published src/*.rs of the crate. Takes some two minutes.
+# Where AYRESOKUM_LIB names a folder with libayresokum.a, that library is taken and none is built.
+set -eu
+if [ $# -ne 1 ]; then
+    sed -n '2,4s/^# //p' "$0" >&2
+    exit 2
+fi
+YUVUTILS_SOURCE=$(cd "$1" && pwd)
+if [ -n "${AYRESOKUM_LIB:-}" ]; then
+    AYRESOKUM_LIB=$(cd "$AYRESOKUM_LIB" && pwd)
+fi
+cd "$(dirname "$0")/.."
+if [ -z "${AYRESOKUM_LIB:-}" ]; then
+    make lib >&2
+    AYRESOKUM_LIB=$PWD/build
+fi
+export YUVUTILS_SOURCE AYRESOKUM_LIB
+cd bench
+exec cargo run --release --offline

@@ -1,0 +1,50 @@
+//! The settings and sizes that are measured.
+use crate::settings::Settings;
+
+const BT709: u32 = 1;
+const LIMITED: u32 = 0;
+const MOST_SIGNIFICANT: u32 = 0;
+
+const DEPTHS: [u32; 2] = [10, 16];
+/// Rgb and Rgba.
+const CHANNELS: [u32; 2] = [0, 1];
+/// 4:2:0, 4:2:2 and 4:4:4.
+const SUBSAMPLINGS: [u32; 3] = [0, 1, 2];
+/// Even, since at odd widths and 4:2:0 the crate's planes differ by its known fault.
+const SIZES: [(usize, usize); 2] = [(1920, 1080), (4096, 2160)];
+
+pub struct Case {
+    pub settings: Settings,
+    pub width: usize,
+    pub height: usize,
+}
+
+fn settings(depth: u32, channels: u32, subsampling: u32) -> Settings {
+    Settings {
+        depth,
+        matrix: BT709,
+        range: LIMITED,
+        subsampling,
+        packing: MOST_SIGNIFICANT,
+        channels,
+        ..Settings::J
+    }
+}
+
+pub fn all() -> Vec<Case> {
+    let mut cases = Vec::new();
+    for depth in DEPTHS {
+        for channels in CHANNELS {
+            for subsampling in SUBSAMPLINGS {
+                for (width, height) in SIZES {
+                    cases.push(Case {
+                        settings: settings(depth, channels, subsampling),
+                        width,
+                        height,
+                    });
+                }
+            }
+        }
+    }
+    cases
+}

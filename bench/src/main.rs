@@ -1,0 +1,36 @@
+//! Times the published loops of yuvutils-rs 0.8.3 and the proved library on the same frames, and prints a table in markdown.
+mod cases;
+mod clock;
+mod machine;
+mod rounds;
+mod settle;
+mod stage;
+mod table;
+mod theirs;
+
+// What the comparison of both converters already has.
+#[path = "../../compare/beside/src/frame.rs"]
+#[allow(dead_code)]
+mod frame;
+#[path = "../../compare/beside/src/ours.rs"]
+#[allow(dead_code)]
+mod ours;
+#[path = "../../compare/beside/src/random.rs"]
+#[allow(dead_code)]
+mod random;
+#[path = "../../compare/beside/src/settings.rs"]
+#[allow(dead_code)]
+mod settings;
+
+use stage::Stage;
+
+fn main() {
+    table::print_head();
+    for case in cases::all() {
+        let mut stage = Stage::new(&case);
+        table::print_row(&case, &rounds::best_times(&mut stage));
+    }
+    table::print_notes();
+    settle::print_time();
+    machine::print_names();
+}

@@ -1,0 +1,115 @@
+//! The buffers of one case, and what is timed on them.
+use crate::cases::Case;
+use crate::frame::{Frame, Planes};
+use crate::random::Random;
+use crate::settings::Settings;
+use crate::{ours, theirs};
+use published::Loops;
+use std::hint::black_box;
+
+#[derive(Clone, Copy)]
+pub enum Candidate {
+    Copy,
+    Crate,
+    Ours,
+    Check,
+}
+
+pub const CANDIDATES: [Candidate; 4] = [
+    Candidate::Copy,
+    Candidate::Crate,
+    Candidate::Ours,
+    Candidate::Check,
+];
+
+pub struct Stage {
+    settings: Settings,
+    frame: Frame,
+    loops: Loops,
+    source: Vec<u16>,
+    /// Both converters write the same planes, so that neither finds its own in the cache.
+    planes: Planes,
+    copied_from: Vec<u16>,
+    copied_to: Vec<u16>,
+}
+
+fn random_samples(settings: &Settings, length: usize) -> Vec<u16> {
+    let mut random = Random::new(1);
+    let m = settings.m();
+    (0..length).map(|_| random.word() & m).collect()
+}
+
+impl Stage {
+    /// Every buffer is written before the first round; both converters are held against each other, and the check accepts.
+    pub fn new(case: &Case) -> Stage {
+        let settings = case.settings;
+        let frame = Frame::padded(&settings, case.width, case.height, [0; 3]);
+        let source = random_samples(&settings, frame.source_length());
+        let (luma_length, chroma_length) = (frame.luma_length(), frame.chroma_length(&settings));
+        let together = source.len() + luma_length + chroma_length;
+        let mut stage = Stage {
+            settings,
+            frame,
+            loops: theirs::loops(&settings),
+            source,
+            planes: Planes::filled(luma_length, chroma_length, 1),
+            copied_from: vec![2; together],
+            copied_to: vec![3; together],
+        };
+        stage.assert_same_planes();
+        stage.run(Candidate::Check);
+        stage
+    }
+
+    fn assert_same_planes(&mut self) {
+        self.run(Candidate::Crate);
+        let unwritten = Planes::filled(self.planes.luma.len(), self.planes.chroma.len(), 4);
+        let crates = std::mem::replace(&mut self.planes, unwritten);
+        self.run(Candidate::Ours);
+        assert!(
+            crates == self.planes,
+            "{} {}: the planes differ",
+            self.settings,
+            self.frame
+        );
+    }
+
+    pub fn run(&mut self, candidate: Candidate) {
+        match candidate {
+            Candidate::Copy => self.copy(),
+            Candidate::Crate => self.convert_by_crate(),
+            Candidate::Ours => self.convert_by_ours(),
+            Candidate::Check => self.check(),
+        }
+    }
+
+    fn copy(&mut self) {
+        self.copied_to.copy_from_slice(black_box(&self.copied_from));
+        black_box(&self.copied_to);
+    }
+
+    fn convert_by_crate(&mut self) {
+        theirs::convert(
+            black_box(self.loops),
+            &self.frame,
+            &self.source,
+            &mut self.planes,
+        );
+    }
+
+    fn convert_by_ours(&mut self) {
+        let refusal = ours::convert(&self.settings, &self.frame, &self.source, &mut self.planes);
+        assert_eq!(refusal, 0, "{} {}: refused", self.settings, self.frame);
+    }
+
+    fn check(&mut self) {
+        let answer = ours::check(&self.settings, &self.frame, &self.source, &self.planes);
+        assert_eq!(
+            (answer.refusal, answer.wrong),
+            (0, 0),
+            "{} {}: not accepted",
+            self.settings,
+            self.frame
+        );
+    }
+}
