@@ -34,7 +34,7 @@ examples: build/demo build/whole_frame
 
 test: examples build/libayresokum.so
 	python3 compare/calls.py
-	! command -v cargo > /dev/null || test ! -d rust || (cd rust && AYRESOKUM_LIB=$(CURDIR)/build cargo test --offline --release)
+	! command -v cargo > /dev/null || (cd rust && AYRESOKUM_LIB=$(CURDIR)/build cargo test --offline --release)
 
 clean:
 	rm -rf build

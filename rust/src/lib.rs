@@ -1,0 +1,151 @@
+//! A proved converter and checker for camera frames: 10 to 16 bit RGB to bi-planar YUV, 4:4:4, 4:2:2 and 4:2:0.
+//!
+//! It carries over the 16-bit path of yuvutils-rs 0.8.3. The work is done by a library written in Rattle, a language in
+//! which every function is proved to meet its contract. This crate is a thin layer over it, with three services:
+//!
+//! - [`settle`](settle()): the nine integer weights of some settings, or a refusal;
+//! - [`convert`](convert()): both planes of a frame written, or a refusal with both untouched;
+//! - [`check`](check()): a recorded frame accepted, or its first wrong sample named, or a refusal.
+//!
+//! # A first call
+//!
+//! Red, blue and white at 10 bits. The planes are filled with 7 before, and their padding keeps it.
+//!
+//! ```
+//! use ayresokum::{
+//!     convert, Frame, Settings, YuvBytesPacking, YuvChromaSubsampling, YuvRange, YuvSourceChannels, YuvStandardMatrix,
+//! };
+//!
+//! let settings = Settings {
+//!     packing: YuvBytesPacking::LeastSignificantBytes,
+//!     ..Settings::new(
+//!         10,
+//!         YuvStandardMatrix::Bt601,
+//!         YuvRange::Full,
+//!         YuvChromaSubsampling::Yuv420,
+//!         YuvSourceChannels::Rgb,
+//!     )
+//! };
+//! let frame = Frame { width: 3, height: 1, source_stride: 9, luma_stride: 4, chroma_stride: 6 };
+//! let source = [1023, 0, 0, 0, 0, 1023, 1023, 1023, 1023];
+//! let (mut luma, mut chroma) = ([7; 4], [7; 6]);
+//!
+//! convert(&settings, &frame, &source, &mut luma, &mut chroma)?;
+//! assert_eq!(luma, [306, 117, 1023, 7]);
+//! assert_eq!(chroma, [682, 726, 512, 512, 7, 7]);
+//! # Ok::<(), ayresokum::Refusal>(())
+//! ```
+//!
+//! # A stale row found
+//!
+//! A check needs the source that the frame was made from. It names the first sample that this source cannot have given.
+//!
+//! ```
+//! use ayresokum::{
+//!     check, convert, Checked, Frame, Place, Plane, Settings, YuvChromaSubsampling, YuvRange, YuvSourceChannels,
+//!     YuvStandardMatrix,
+//! };
+//!
+//! let settings = Settings::new(
+//!     12,
+//!     YuvStandardMatrix::Bt709,
+//!     YuvRange::Limited,
+//!     YuvChromaSubsampling::Yuv422,
+//!     YuvSourceChannels::Rgba,
+//! );
+//! let frame = Frame::unpadded(&settings, 4, 3);
+//! let lengths = frame.lengths(&settings);
+//! let source: Vec<u16> = (0..lengths.source).map(|i| i as u16 * 80).collect();
+//! let (mut luma, mut chroma) = (vec![0; lengths.luma], vec![0; lengths.chroma]);
+//! convert(&settings, &frame, &source, &mut luma, &mut chroma)?;
+//! assert_eq!(check(&settings, &frame, &source, &luma, &chroma)?, Checked::Accepted);
+//!
+//! // The last row still holds the first one's samples.
+//! luma.copy_within(0..4, 8);
+//! let stale = Place { plane: Plane::Luma, row: 2, element: 0 };
+//! assert_eq!(check(&settings, &frame, &source, &luma, &chroma)?, Checked::Wrong(stale));
+//! # Ok::<(), ayresokum::Refusal>(())
+//! ```
+//!
+//! # Refusals
+//!
+//! No input panics and none is undefined. What is not taken is refused, by the first reason that applies.
+//!
+//! ```
+//! # use ayresokum::{convert, Frame, Refusal, Settings, YuvChromaSubsampling, YuvRange, YuvSourceChannels, YuvStandardMatrix};
+//! # let settings = Settings::new(
+//! #     10,
+//! #     YuvStandardMatrix::Bt709,
+//! #     YuvRange::Limited,
+//! #     YuvChromaSubsampling::Yuv420,
+//! #     YuvSourceChannels::Rgb,
+//! # );
+//! let nothing = Frame::unpadded(&settings, 0, 2);
+//! let refusal = convert(&settings, &nothing, &[], &mut [], &mut []).unwrap_err();
+//! assert_eq!(refusal, Refusal::Size);
+//! assert_eq!(refusal.to_string(), "refusal 7: width or height is 0 or over 16,384");
+//! ```
+//!
+//! # Moving from yuvutils-rs
+//!
+//! The types have its names, and its sixteen functions are in [`names`] and at the root, so that `use yuvutils_rs::{..}`
+//! becomes `use ayresokum::{..}`. The planes of the image are plain slices here. The page of [`names`] lists what differs.
+//!
+//! ```
+//! use ayresokum::{rgb10_to_p010, YuvBiPlanarImageMut, YuvRange, YuvStandardMatrix};
+//!
+//! let rgb = [1023; 2 * 2 * 3];
+//! let (mut luma, mut chroma) = ([0; 4], [0; 2]);
+//! let mut image = YuvBiPlanarImageMut {
+//!     y_plane: &mut luma,
+//!     y_stride: 2,
+//!     uv_plane: &mut chroma,
+//!     uv_stride: 2,
+//!     width: 2,
+//!     height: 2,
+//! };
+//! rgb10_to_p010(&mut image, &rgb, 6, YuvRange::Limited, YuvStandardMatrix::Bt709)?;
+//! assert_eq!(luma, [940 << 6; 4]);
+//! # Ok::<(), ayresokum::Refusal>(())
+//! ```
+//!
+//! # What is proved
+//!
+//! - For every input, each of the three functions gives the answer that the rules say, and no other: the refusals in their
+//!   order, the weights, every element of both planes, the first wrong sample. The rules stand as definitions in the
+//!   repository's crates/rules/specs.
+//! - Refusal 4 is never given.
+//! - Whatever `convert` writes with a named matrix, `check` accepts.
+//!
+//! # What is not
+//!
+//! - The back end of the compiler that turns the proved code into machine code.
+//! - This crate: the numbers in place of enumerations, pointers and lengths in place of slices, answers turned into
+//!   [`Result`]. It is tested against the rules written afresh, by some hundred thousand random calls.
+//! - That the recorded source is the one the camera saw.
+#![deny(missing_docs)]
+#![deny(unsafe_op_in_unsafe_fn)]
+
+mod check;
+mod convert;
+mod ffi;
+mod frame;
+mod image;
+pub mod names;
+mod refusal;
+mod settings;
+mod settle;
+mod weights;
+
+pub use check::{check, Checked, Place, Plane};
+pub use convert::convert;
+pub use frame::{Frame, Lengths};
+pub use image::YuvBiPlanarImageMut;
+pub use names::*;
+pub use refusal::Refusal;
+pub use settings::{
+    Settings, YuvBytesPacking, YuvChromaSubsampling, YuvEndianness, YuvNVOrder, YuvRange,
+    YuvSourceChannels, YuvStandardMatrix,
+};
+pub use settle::settle;
+pub use weights::Weights;

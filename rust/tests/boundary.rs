@@ -1,0 +1,5 @@
+//! Random calls over the boundary to the proved library, valid and damaged, each held against document 01 written afresh.
+//!
+//! `cargo test --release boundary -- --nocapture` prints how often each answer was reached.
+mod calls;
+mod reference;

@@ -1,0 +1,113 @@
+//! Buffers drawn: lengths, the samples of a source, the old words of a plane.
+use super::random::Random;
+use crate::reference::{Frame, Settings};
+
+const LONGEST: u128 = 140_000;
+const PIXELS: usize = 40_000;
+
+/// The exact lengths where they can be had, else short ones.
+pub fn lengths(random: &mut Random, settings: &Settings, frame: &Frame) -> [usize; 3] {
+    frame.lengths(settings).map(|length| match length {
+        0..=LONGEST => length as usize,
+        _ => random.below(20),
+    })
+}
+
+/// One length off: one short, one long, empty, a row more, or without the padding of the last row.
+pub fn spoil_length(
+    random: &mut Random,
+    settings: &Settings,
+    frame: &Frame,
+    lengths: &mut [usize; 3],
+) {
+    let which = random.below(3);
+    let stride = frame.strides()[which];
+    let padding = (stride as u128).saturating_sub(frame.visible(settings)[which]);
+    let length = &mut lengths[which];
+    *length = match random.below(6) {
+        0 => 0,
+        1 => *length + stride.min(LONGEST as usize),
+        2 => length.saturating_sub(padding as usize),
+        3 | 4 => length.saturating_sub(1),
+        _ => *length + 1,
+    };
+}
+
+/// The largest sample, or that of 10 bits where the depth is none.
+pub fn most(settings: &Settings) -> u16 {
+    match settings.depth {
+        10..=16 => settings.most() as u16,
+        _ => 1_023,
+    }
+}
+
+fn pixel_elements(settings: &Settings) -> usize {
+    match settings.channels {
+        0 | 3 => 3,
+        _ => 4,
+    }
+}
+
+/// The indices of all visible colour samples, or none where the frame is no frame. Alpha stands last in a pixel.
+pub fn colour_places(settings: &Settings, frame: &Frame, length: usize) -> Vec<usize> {
+    let elements = pixel_elements(settings);
+    let mut places = Vec::new();
+    if frame.width.saturating_mul(frame.height) > PIXELS {
+        return places;
+    }
+    for row in 0..frame.height {
+        for column in 0..frame.width {
+            let at = row
+                .saturating_mul(frame.source_stride)
+                .saturating_add(column * elements);
+            places.extend((0..3).map(|c| at.saturating_add(c)).filter(|&i| i < length));
+        }
+    }
+    places
+}
+
+fn sample(random: &mut Random, manner: usize, most: u16) -> u16 {
+    match manner {
+        0 => random.pick(&[0, most]),
+        1 => random.pick(&[0, 1, 2, most - 2, most - 1, most]),
+        2 => most / 2 + random.below(5) as u16,
+        _ => (random.word() as u32 % (u32::from(most) + 1)) as u16,
+    }
+}
+
+/// What stands in padding and alpha: any word, mostly too large for a sample.
+fn unread(random: &mut Random, most: u16) -> u16 {
+    match random.below(3) {
+        0 => most.saturating_add(1),
+        1 => u16::MAX,
+        _ => random.word(),
+    }
+}
+
+pub fn source(random: &mut Random, settings: &Settings, frame: &Frame, length: usize) -> Vec<u16> {
+    let most = most(settings);
+    let manner = random.below(6);
+    let mut source: Vec<u16> = (0..length).map(|_| unread(random, most)).collect();
+    for place in colour_places(settings, frame, length) {
+        source[place] = sample(random, manner, most);
+    }
+    source
+}
+
+/// One visible sample above m, where there is a number above m.
+pub fn spoil_sample(random: &mut Random, settings: &Settings, frame: &Frame, source: &mut [u16]) {
+    let places = colour_places(settings, frame, source.len());
+    let most = most(settings);
+    if places.is_empty() || most == u16::MAX {
+        return;
+    }
+    let place = places[random.place(places.len())];
+    source[place] = random.pick(&[most + 1, most + 1, u16::MAX]);
+}
+
+pub fn plane(random: &mut Random, length: usize) -> Vec<u16> {
+    match random.below(2) {
+        0 => vec![7; length],
+        _ => (0..length).map(|_| random.word()).collect(),
+    }
+}

@@ -1,0 +1,55 @@
+//! Convert: random frames, every element of every buffer compared; then what was written is checked.
+use super::call::Call;
+use super::counts::{refused, Counts};
+use super::library::{check, convert, By};
+use super::random::Random;
+
+const CALLS: usize = 40_000;
+
+fn compare(random: &mut Random, call: Call, counts: &mut Counts) {
+    let by = By::draw(random, &call.settings);
+    let mut expected = call.clone();
+    let mut got = call.clone();
+    let answer = expected.convert();
+    assert_eq!(convert(by, &mut got), answer, "{by:?} {}", call.told());
+    assert!(
+        got.source == call.source,
+        "source changed: {by:?} {}",
+        call.told()
+    );
+    assert!(got.luma == expected.luma, "luma: {by:?} {}", call.told());
+    assert!(
+        got.chroma == expected.chroma,
+        "chroma: {by:?} {}",
+        call.told()
+    );
+    counts.add(format!("by {by:?}"));
+    counts.add_many("elements compared", call.elements());
+    match answer {
+        Err(number) => counts.add(refused(number)),
+        Ok(()) if call.settings.is_custom() => counts.add("done, custom pair"),
+        Ok(()) => {
+            counts.add("done, named matrix");
+            assert_eq!(check(by, &got), Ok(None), "not accepted: {}", call.told());
+            counts.add("done and accepted by check");
+        }
+    }
+}
+
+#[test]
+fn random_frames() {
+    let random = &mut Random::new(3);
+    let mut counts = Counts::default();
+    for _ in 0..CALLS {
+        let call = Call::draw(random);
+        compare(random, call, &mut counts);
+    }
+    counts.print(&format!("convert, {CALLS} calls"));
+    counts.assert_refusals(&[1, 2, 3, 5, 7, 8, 9, 10, 18]);
+    counts.assert_reached(&[
+        "done, custom pair",
+        "done and accepted by check",
+        "by Crate",
+        "by Raw",
+    ]);
+}

@@ -1,0 +1,84 @@
+//! Frames drawn: sizes and strides, sound and spoiled.
+use super::random::Random;
+use crate::reference::{Frame, Settings};
+
+/// 2^32 + 3 would be 3 in fewer bits.
+const SIZES: [usize; 7] = [0, 0, 16_385, 65_536, 65_537, (1 << 32) + 3, usize::MAX];
+
+/// Width and height: mostly small, at times one of them 16,384.
+pub fn sizes(random: &mut Random) -> [usize; 2] {
+    let long = match random.below(500) {
+        0..=1 => 16_384,
+        2..=80 => 1 + random.below(40),
+        _ => 1 + random.below(9),
+    };
+    let short = match long {
+        0..=40 => 1 + random.below(9),
+        _ => 1 + random.below(2),
+    };
+    match random.below(2) {
+        0 => [long, short],
+        _ => [short, long],
+    }
+}
+
+pub fn spoil_size(random: &mut Random, sizes: &mut [usize; 2]) {
+    let size = random.pick(&SIZES);
+    let side = random.below(2);
+    if size > 40 {
+        // Kept narrow, so that the buffers can be laid out.
+        sizes[1 - side] = 1 + random.below(2);
+    }
+    sizes[side] = size;
+}
+
+fn padding(random: &mut Random) -> usize {
+    match random.below(2) {
+        0 => 0,
+        _ => 1 + random.below(5),
+    }
+}
+
+/// A stride for a visible row of any length, even one that no stride can hold.
+fn stride(random: &mut Random, visible: u128, rows: usize) -> usize {
+    let visible = usize::try_from(visible).unwrap_or(usize::MAX);
+    if rows <= 2 && visible <= 65_536 && random.one_in(50) {
+        return 65_536;
+    }
+    visible.saturating_add(padding(random))
+}
+
+fn spoiled_stride(random: &mut Random, visible: u128) -> usize {
+    let visible = usize::try_from(visible).unwrap_or(usize::MAX);
+    match random.below(7) {
+        0 => 0,
+        1 => 65_537,
+        2 => usize::MAX,
+        3 => visible.wrapping_add(1 << 32),
+        _ => visible.wrapping_sub(1),
+    }
+}
+
+/// `spoils` says whether one stride is to be a wrong one.
+pub fn laid_out(
+    random: &mut Random,
+    settings: &Settings,
+    [width, height]: [usize; 2],
+    spoils: bool,
+) -> Frame {
+    let mut frame = Frame {
+        width,
+        height,
+        source_stride: 0,
+        luma_stride: 0,
+        chroma_stride: 0,
+    };
+    let visible = frame.visible(settings);
+    let mut strides = visible.map(|v| stride(random, v, height));
+    if spoils {
+        let which = random.below(3);
+        strides[which] = spoiled_stride(random, visible[which]);
+    }
+    [frame.source_stride, frame.luma_stride, frame.chroma_stride] = strides;
+    frame
+}

@@ -1,0 +1,171 @@
+//! The library asked, by the crate's functions or by raw calls, with answers as the reference gives them.
+use super::call::Call;
+use super::random::Random;
+use super::raw;
+use crate::reference::{Frame, Sample, Settings};
+use ayresokum::{
+    Checked, Plane, Refusal, Weights, YuvBytesPacking, YuvChromaSubsampling, YuvEndianness,
+    YuvNVOrder, YuvRange, YuvSourceChannels, YuvStandardMatrix,
+};
+
+#[derive(Debug, Clone, Copy, PartialEq)]
+pub enum By {
+    Crate,
+    Raw,
+}
+
+impl By {
+    /// The crate's types have no case for an unnamed number.
+    pub fn draw(random: &mut Random, settings: &Settings) -> By {
+        match settings.is_meant() && !random.one_in(4) {
+            true => By::Crate,
+            false => By::Raw,
+        }
+    }
+}
+
+fn meant(settings: &Settings) -> ayresokum::Settings {
+    use YuvChromaSubsampling::*;
+    use YuvSourceChannels::*;
+    use YuvStandardMatrix::*;
+    let custom = Custom(settings.kr, settings.kb);
+    ayresokum::Settings {
+        depth: settings.depth,
+        precision: settings.precision,
+        matrix: [Bt601, Bt709, Bt2020, Smpte240, Bt470_6, custom][settings.matrix as usize],
+        range: [YuvRange::Limited, YuvRange::Full][settings.range as usize],
+        subsampling: [Yuv420, Yuv422, Yuv444][settings.subsampling as usize],
+        order: [YuvNVOrder::UV, YuvNVOrder::VU][settings.order as usize],
+        packing: [
+            YuvBytesPacking::MostSignificantBytes,
+            YuvBytesPacking::LeastSignificantBytes,
+        ][settings.packing as usize],
+        endianness: [YuvEndianness::BigEndian, YuvEndianness::LittleEndian]
+            [settings.byte_order as usize],
+        channels: [Rgb, Rgba, Bgra, Bgr][settings.channels as usize],
+    }
+}
+
+fn meant_frame(frame: &Frame) -> ayresokum::Frame {
+    ayresokum::Frame {
+        width: frame.width,
+        height: frame.height,
+        source_stride: frame.source_stride,
+        luma_stride: frame.luma_stride,
+        chroma_stride: frame.chroma_stride,
+    }
+}
+
+fn answer<T>(refusal: u32, value: T) -> Result<T, u32> {
+    match refusal {
+        0 => Ok(value),
+        number => Err(number),
+    }
+}
+
+fn rows(w: [i32; 9]) -> [[i128; 3]; 3] {
+    [0, 3, 6].map(|i| [w[i], w[i + 1], w[i + 2]].map(i128::from))
+}
+
+fn nine(w: Weights) -> [i32; 9] {
+    [
+        w.yr, w.yg, w.yb, w.cb_r, w.cb_g, w.cb_b, w.cr_r, w.cr_g, w.cr_b,
+    ]
+}
+
+pub fn settle(by: By, settings: &Settings) -> Result<[[i128; 3]; 3], u32> {
+    match by {
+        By::Crate => {
+            let settled = ayresokum::settle(&meant(settings));
+            settled.map(|w| rows(nine(w))).map_err(Refusal::number)
+        }
+        By::Raw => {
+            let (refusal, weights) = raw::settle(settings);
+            assert!(
+                refusal == 0 || weights == [0; 9],
+                "weights with a refusal: {settings:?}"
+            );
+            answer(refusal, rows(weights))
+        }
+    }
+}
+
+pub fn convert(by: By, call: &mut Call) -> Result<(), u32> {
+    let Call {
+        settings,
+        frame,
+        source,
+        luma,
+        chroma,
+    } = call;
+    match by {
+        By::Crate => {
+            let converted =
+                ayresokum::convert(&meant(settings), &meant_frame(frame), source, luma, chroma);
+            converted.map_err(Refusal::number)
+        }
+        By::Raw => answer(raw::convert(settings, frame, source, luma, chroma), ()),
+    }
+}
+
+fn sample(place: ayresokum::Place) -> Sample {
+    let plane = match place.plane {
+        Plane::Luma => 0,
+        Plane::Chroma => 1,
+    };
+    Sample {
+        plane,
+        row: place.row,
+        element: place.element,
+    }
+}
+
+fn raw_sample(checked: raw::Checked) -> Option<Sample> {
+    let [wrong, plane, row, element] =
+        [checked.wrong, checked.plane, checked.row, checked.element].map(|n| n as usize);
+    match wrong {
+        1 => Some(Sample {
+            plane,
+            row,
+            element,
+        }),
+        _ => {
+            assert_eq!(
+                [wrong, plane, row, element],
+                [0; 4],
+                "a place with no wrong sample"
+            );
+            None
+        }
+    }
+}
+
+pub fn check(by: By, call: &Call) -> Result<Option<Sample>, u32> {
+    let Call {
+        settings,
+        frame,
+        source,
+        luma,
+        chroma,
+    } = call;
+    match by {
+        By::Crate => {
+            let checked =
+                ayresokum::check(&meant(settings), &meant_frame(frame), source, luma, chroma);
+            let named = checked.map(|c| match c {
+                Checked::Accepted => None,
+                Checked::Wrong(place) => Some(sample(place)),
+            });
+            named.map_err(Refusal::number)
+        }
+        By::Raw => {
+            let checked = raw::check(settings, frame, source, luma, chroma);
+            assert!(
+                checked.refusal == 0 || checked.wrong == 0,
+                "wrong and refused: {}",
+                call.told()
+            );
+            answer(checked.refusal, raw_sample(checked))
+        }
+    }
+}

@@ -1,0 +1,14 @@
+//! The calls: how they are drawn, made and counted.
+mod buffers;
+mod call;
+mod change;
+mod check;
+mod convert;
+mod counts;
+mod frames;
+mod library;
+mod pairs;
+mod random;
+mod raw;
+mod settings;
+mod settle;

@@ -1,0 +1,60 @@
+//! Rows and lengths of a frame's buffers.
+use super::Settings;
+
+/// In the layout of the C interface.
+#[repr(C)]
+#[derive(Debug, Clone, Copy)]
+pub struct Frame {
+    pub width: usize,
+    pub height: usize,
+    pub source_stride: usize,
+    pub luma_stride: usize,
+    pub chroma_stride: usize,
+}
+
+/// Elements of a pixel.
+pub fn pixel_elements(settings: &Settings) -> u128 {
+    match settings.channels {
+        0 | 3 => 3,
+        _ => 4,
+    }
+}
+
+/// "2·width for 4:4:4, else twice width halved and rounded up".
+pub fn chroma_elements(settings: &Settings, width: usize) -> u128 {
+    let width = width as u128;
+    match settings.subsampling {
+        2 => 2 * width,
+        _ => 2 * width.div_ceil(2),
+    }
+}
+
+/// "height, or for 4:2:0 height halved and rounded up".
+pub fn chroma_rows(settings: &Settings, height: usize) -> u128 {
+    let height = height as u128;
+    match settings.subsampling {
+        0 => height.div_ceil(2),
+        _ => height,
+    }
+}
+
+impl Frame {
+    /// Visible elements in a row of source, luma and chroma.
+    pub fn visible(&self, settings: &Settings) -> [u128; 3] {
+        let width = self.width as u128;
+        let chroma = chroma_elements(settings, self.width);
+        [width * pixel_elements(settings), width, chroma]
+    }
+
+    pub fn strides(&self) -> [usize; 3] {
+        [self.source_stride, self.luma_stride, self.chroma_stride]
+    }
+
+    /// "exactly stride × rows", of source, luma and chroma.
+    pub fn lengths(&self, settings: &Settings) -> [u128; 3] {
+        let height = self.height as u128;
+        let rows = [height, height, chroma_rows(settings, self.height)];
+        let strides = self.strides();
+        [0, 1, 2].map(|i| strides[i] as u128 * rows[i])
+    }
+}
