@@ -1,10 +1,10 @@
 // Refusal 10: the first visible colour sample that exceeds m, row by row, pixel by pixel, red before green before blue.
 ghost use mathlib.Core.Path.{_≡_};
-ghost use Prim.Native.Nat.{_*_, _≤_};
-ghost use lib.ListN.{length};
+ghost use Prim.Native.Nat.{ℕ, _*_, _<_, _≤_};
+ghost use lib.ListN.{length, getD};
 ghost use Rattle.rules.specs.Channels.{count, picture};
 ghost use Rattle.rules.specs.Frames.{place, firstBelow, highAt, tooLargeAt, isFound};
-ghost use Rattle.frames.specs.Rows.{rowPixel, Rows};
+ghost use Rattle.frames.specs.Rows.{rowPixel, Rows, LowRow};
 ghost use Rattle.frames.specs.Tests.{Sized};
 use crate::channels;
 use rules::Frame;
@@ -49,11 +49,50 @@ fn high_at(m: u16, row: usize, pixel: usize, p: Pixel) -> Search
     Search::Nothing
 }
 
+fn greater(a: u16, b: u16) -> u16
+    ensures { λ r. ⌜ (a ≤ r) × (b ≤ r) ⌝ }
+{
+    if a < b {
+        return b;
+    }
+    a
+}
+
+// A bound of all elements of a part; in a loop with no exit the compiler takes many at once.
+fn flat_most(part: &[u16]) -> u16
+    ensures { λ r. ⌜ ((i : ℕ) → i < length (now (part .entry)) → getD (now (part .entry)) i 0 ≤ r) ⌝ }
+{
+    let mut most = 0;
+    let mut i = 0;
+    while i < part.len() {
+        most = greater(most, part[i]);
+        i += 1;
+    }
+    most
+}
+
+// A bound of the colour samples of a row; where alpha stands among them, finding the greatest takes no less time than the search,
+// and the largest number will do.
+fn row_most(channels: YuvSourceChannels, width: usize, part: &[u16]) -> u16
+    requires { ⌜ width * count channels ≤ length (now part) ⌝ }
+    ensures { λ r. ⌜ LowRow r (rowPixel channels (now (part .entry))) width ⌝ }
+{
+    match channels {
+        YuvSourceChannels::Rgb => flat_most(part),
+        YuvSourceChannels::Rgba => 65535,
+        YuvSourceChannels::Bgra => 65535,
+        YuvSourceChannels::Bgr => flat_most(part),
+    }
+}
+
 // The first place in a row, by a row part that shows it.
 fn row_high(m: u16, channels: YuvSourceChannels, width: usize, row: usize, part: &[u16]) -> Search
     requires { ⌜ width * count channels ≤ length (now part) ⌝ }
     ensures { λ r. ⌜ r ≡ firstBelow width (λ x. highAt m row x (rowPixel channels (now (part .entry)) x)) ⌝ }
 {
+    if row_most(channels, width, part) <= m {
+        return Search::Nothing;
+    }
     let mut x = 0;
     while x < width {
         let p = channels::row_pixel(channels, part, width, x);
@@ -72,6 +111,9 @@ pub fn too_large(m: u16, channels: YuvSourceChannels, f: Frame, source: &[u16]) 
     requires { ⌜ Rows (length (now source)) (f .«source_stride») (f .width * count channels) (f .height) ⌝ }
     ensures { λ r. ⌜ r ≡ tooLargeAt m f (picture channels (f .«source_stride») (now (source .entry))) ⌝ }
 {
+    if m == 65535 {
+        return Search::Nothing;
+    }
     let width = f.width;
     let height = f.height;
     let n = width * get_channels_count(channels);

@@ -59,6 +59,11 @@ module _ (f : ℕ → Search) where
       let b = both-nothing (firstBelow n f) (f n) h in
       ⊎-elim (λ (q : i ≡ n). ap f q ∙ b .1) (λ (q : i < n). none-at n (b .0) i q) (eq-or-lt-of-le (le-of-suc-le-suc l))
 
+-- nothing at any place
+pub none-all : (n : ℕ) (f : ℕ → Search) → ((i : ℕ) → i < n → f i ≡ Nothing) → firstBelow n f ≡ Nothing
+none-all zero f h = none-yet f
+none-all (suc n) f h = next-none f n (none-all n f (λ i l. h i (more i n l))) (h n (last n))
+
 -- functions that agree find the same
 pub first-ext : (n : ℕ) (f g : ℕ → Search) → ((i : ℕ) → i < n → f i ≡ g i) → firstBelow n f ≡ firstBelow n g
 unfolding firstBelow
