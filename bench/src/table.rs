@@ -41,8 +41,7 @@ padding, buffers touched before. Before the rounds both converters wrote the sam
   release profile, no features and no flags for the processor. The checks of buffers that the published text has are part of it.
   16 bits at 4:2:2 and 4:4:4 are not among the functions that it offers; its private function has them.
 - ours: ayresokum_convert whole: it settles, asks every refusal, scans every colour sample for one that is too large, and writes
-  both planes. The crate has no scan. No call of the interface converts without it: at depth 16 no sample can be too large, and
-  the scan still runs.
+  both planes. The crate has no scan. At depth 16 no sample can be too large, and ours does not scan either.
 - check: ayresokum_check of the planes as converted, accepted. It settles and scans as well.
 - memcpy: as many bytes as source, luma and chroma have together. It reads and writes each byte, where a converter reads the source
   and writes the planes."

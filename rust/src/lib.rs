@@ -109,6 +109,11 @@
 //! # Ok::<(), ayresokum::Refusal>(())
 //! ```
 //!
+//! # Building
+//!
+//! `rt staticlib ayresokum` writes the proved library to the repository's target/staticlib, where the build looks for it. The
+//! variable `AYRESOKUM_LIB` names another folder, from the root or from this crate's folder.
+//!
 //! # What is proved
 //!
 //! - For every input, each of the three functions gives the answer that the rules say, and no other: the refusals in their
@@ -121,13 +126,15 @@
 //!
 //! - The back end of the compiler that turns the proved code into machine code.
 //! - This crate: the numbers in place of enumerations, pointers and lengths in place of slices, answers turned into
-//!   [`Result`]. It is tested against the rules written afresh, by some hundred thousand random calls.
+//!   [`Result`]. It is tested against the rules written afresh, by some three hundred thousand random calls.
 //! - That the recorded source is the one the camera saw.
 #![deny(missing_docs)]
+#![deny(unsafe_code)]
 #![deny(unsafe_op_in_unsafe_fn)]
 
 mod check;
 mod convert;
+#[allow(unsafe_code)]
 mod ffi;
 mod frame;
 mod image;

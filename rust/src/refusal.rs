@@ -60,6 +60,7 @@ impl Refusal {
         }
     }
 
+    // Only a library of another version can give a number that is not here.
     fn of(number: u32) -> Refusal {
         let named = Refusal::ALL.into_iter().find(|r| r.number() == number);
         named.unwrap_or_else(|| panic!("the linked library has a refusal {number}, unknown here"))

@@ -1,8 +1,10 @@
-//! The sixteen names beside `convert` with the settings that each stands for.
+//! The sixteen names, at the root, beside `convert` with the settings that each stands for.
 use ayresokum::{
-    convert, names, Frame, Refusal, Settings, YuvBiPlanarImageMut, YuvBytesPacking,
-    YuvChromaSubsampling, YuvEndianness, YuvNVOrder, YuvRange, YuvSourceChannels,
-    YuvStandardMatrix,
+    convert, rgb10_to_p010, rgb10_to_p210, rgb10_to_p410, rgb12_to_p012, rgb12_to_p212,
+    rgb12_to_p412, rgb16_to_p016, rgb16_to_p216, rgba10_to_p010, rgba10_to_p210, rgba10_to_p410,
+    rgba12_to_p012, rgba12_to_p212, rgba12_to_p412, rgba16_to_p016, rgba16_to_p216, Frame, Refusal,
+    Settings, YuvBiPlanarImageMut, YuvBytesPacking, YuvChromaSubsampling, YuvEndianness,
+    YuvNVOrder, YuvRange, YuvSourceChannels, YuvStandardMatrix,
 };
 use YuvChromaSubsampling::{Yuv420, Yuv422, Yuv444};
 use YuvSourceChannels::{Rgb, Rgba};
@@ -16,22 +18,22 @@ type Name = fn(
 ) -> Result<(), Refusal>;
 
 const NAMES: [(Name, u32, YuvSourceChannels, YuvChromaSubsampling); 16] = [
-    (names::rgb10_to_p010, 10, Rgb, Yuv420),
-    (names::rgba10_to_p010, 10, Rgba, Yuv420),
-    (names::rgb10_to_p210, 10, Rgb, Yuv422),
-    (names::rgba10_to_p210, 10, Rgba, Yuv422),
-    (names::rgb10_to_p410, 10, Rgb, Yuv444),
-    (names::rgba10_to_p410, 10, Rgba, Yuv444),
-    (names::rgb12_to_p012, 12, Rgb, Yuv420),
-    (names::rgba12_to_p012, 12, Rgba, Yuv420),
-    (names::rgb12_to_p212, 12, Rgb, Yuv422),
-    (names::rgba12_to_p212, 12, Rgba, Yuv422),
-    (names::rgb12_to_p412, 12, Rgb, Yuv444),
-    (names::rgba12_to_p412, 12, Rgba, Yuv444),
-    (names::rgb16_to_p016, 16, Rgb, Yuv420),
-    (names::rgba16_to_p016, 16, Rgba, Yuv420),
-    (names::rgb16_to_p216, 16, Rgb, Yuv420),
-    (names::rgba16_to_p216, 16, Rgba, Yuv420),
+    (rgb10_to_p010, 10, Rgb, Yuv420),
+    (rgba10_to_p010, 10, Rgba, Yuv420),
+    (rgb10_to_p210, 10, Rgb, Yuv422),
+    (rgba10_to_p210, 10, Rgba, Yuv422),
+    (rgb10_to_p410, 10, Rgb, Yuv444),
+    (rgba10_to_p410, 10, Rgba, Yuv444),
+    (rgb12_to_p012, 12, Rgb, Yuv420),
+    (rgba12_to_p012, 12, Rgba, Yuv420),
+    (rgb12_to_p212, 12, Rgb, Yuv422),
+    (rgba12_to_p212, 12, Rgba, Yuv422),
+    (rgb12_to_p412, 12, Rgb, Yuv444),
+    (rgba12_to_p412, 12, Rgba, Yuv444),
+    (rgb16_to_p016, 16, Rgb, Yuv420),
+    (rgba16_to_p016, 16, Rgba, Yuv420),
+    (rgb16_to_p216, 16, Rgb, Yuv420),
+    (rgba16_to_p216, 16, Rgba, Yuv420),
 ];
 
 const MATRICES: [YuvStandardMatrix; 7] = [
@@ -159,13 +161,4 @@ fn refusals() {
         assert_eq!(answer.is_err(), settings.depth < 16);
         assert!(answer.is_ok() || answer == Err(Refusal::TooLarge));
     });
-}
-
-/// The root has them too, so that a caller changes the crate's name and nothing else.
-#[test]
-fn at_the_root() {
-    assert!(std::ptr::fn_addr_eq(
-        ayresokum::rgb10_to_p010 as Name,
-        names::rgb10_to_p010 as Name
-    ));
 }

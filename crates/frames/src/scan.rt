@@ -71,8 +71,7 @@ fn flat_most(part: &[u16]) -> u16
     most
 }
 
-// A bound of the colour samples of a row; where alpha stands among them, finding the greatest takes no less time than the search,
-// and the largest number will do.
+// A bound of the colour samples of a row: where alpha stands among them, finding a close one takes no less time than the search.
 fn row_most(channels: YuvSourceChannels, width: usize, part: &[u16]) -> u16
     requires { ⌜ width * count channels ≤ length (now part) ⌝ }
     ensures { λ r. ⌜ LowRow r (rowPixel channels (now (part .entry))) width ⌝ }
@@ -111,6 +110,7 @@ pub fn too_large(m: u16, channels: YuvSourceChannels, f: Frame, source: &[u16]) 
     requires { ⌜ Rows (length (now source)) (f .«source_stride») (f .width * count channels) (f .height) ⌝ }
     ensures { λ r. ⌜ r ≡ tooLargeAt m f (picture channels (f .«source_stride») (now (source .entry))) ⌝ }
 {
+    // no sample of 16 bits exceeds this m
     if m == 65535 {
         return Search::Nothing;
     }

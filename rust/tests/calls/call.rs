@@ -41,7 +41,7 @@ impl Call {
         let damages = damages(random);
         let has = |damage| damages.contains(&damage);
         let mut settings = settings::usable(random);
-        if has(Damage::Settings) {
+        for _ in damages.iter().filter(|&&d| d == Damage::Settings) {
             settings::spoil(random, &mut settings);
         }
         let mut sizes = frames::sizes(random);

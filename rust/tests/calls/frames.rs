@@ -5,6 +5,9 @@ use crate::reference::{Frame, Settings};
 /// 2^32 + 3 would be 3 in fewer bits.
 const SIZES: [usize; 7] = [0, 0, 16_385, 65_536, 65_537, (1 << 32) + 3, usize::MAX];
 
+/// Some are sound for some rows.
+const STRIDES: [usize; 7] = [0, 1, 16_384, 16_385, 65_536, 65_537, usize::MAX];
+
 /// Width and height: mostly small, at times one of them 16,384.
 pub fn sizes(random: &mut Random) -> [usize; 2] {
     let long = match random.below(500) {
@@ -50,16 +53,14 @@ fn stride(random: &mut Random, visible: u128, rows: usize) -> usize {
 
 fn spoiled_stride(random: &mut Random, visible: u128) -> usize {
     let visible = usize::try_from(visible).unwrap_or(usize::MAX);
-    match random.below(7) {
-        0 => 0,
-        1 => 65_537,
-        2 => usize::MAX,
-        3 => visible.wrapping_add(1 << 32),
+    match random.below(8) {
+        0..=3 => random.pick(&STRIDES),
+        4 => visible.wrapping_add(1 << 32),
         _ => visible.wrapping_sub(1),
     }
 }
 
-/// `spoils` says whether one stride is to be a wrong one.
+/// `spoils` says whether one stride is to be off.
 pub fn laid_out(
     random: &mut Random,
     settings: &Settings,
