@@ -14,7 +14,7 @@ lib: build/libayresokum.a build/libayresokum.so
 
 build/libayresokum.a: $(RULES)
 	mkdir -p build
-	rt staticlib ayresokum > build/staticlib.log || (cat build/staticlib.log; false)
+	rt staticlib ayresokum > build/staticlib.log 2>&1 || (cat build/staticlib.log; false)
 	cp target/staticlib/libayresokum.a $@
 
 build/libayresokum.so: build/libayresokum.a
