@@ -13,8 +13,8 @@ if [ -n "${AYRESOKUM_LIB:-}" ]; then
 fi
 cd "$(dirname "$0")/.."
 if [ -z "${AYRESOKUM_LIB:-}" ]; then
-    rt staticlib ayresokum </dev/null >&2
-    AYRESOKUM_LIB=$PWD/target/staticlib
+    make lib </dev/null >&2
+    AYRESOKUM_LIB=$PWD/build
 fi
 export YUVUTILS_SOURCE AYRESOKUM_LIB
 cd compare/beside
