@@ -1,2 +1,4 @@
+pub mod Apart
+pub mod Doubled
 pub mod Passes
 pub mod Values

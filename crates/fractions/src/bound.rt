@@ -1,5 +1,6 @@
 // The tolerance test of one sample by a bound.
 use crate::Exact;
+use std::num::wrapping_sub_u64;
 ghost use mathlib.Core.Path.{_≡_};
 ghost use Prim.Native.Nat.{_+_, _*_, _^_, _≤_};
 ghost use lib.Dec.{leb};
@@ -24,35 +25,37 @@ fn tolerance(q: u64, m: u32, halves: u32) -> u64
 // The tolerance times the divisor, rounded down: worked out once for all samples of a block size.
 pub fn bound(precision: u32, m: u32, halves: u32, under: u64) -> u64
     requires { ⌜ Scale precision m halves under ⌝ }
-    ensures { λ r. ⌜ r ≡ boundOf precision m halves under ⌝ }
+    ensures { λ r. ⌜ (r ≡ boundOf precision m halves under) × (r ≤ 60000000000000000) ⌝ }
 {
     let q = power(precision);
     under * tolerance(q, m, halves) / (100 * q)
 }
 
-// |a − b|.
-fn apart(a: u64, b: u64) -> u64
-    ensures { λ r. ⌜ r ≡ apart a b ⌝ }
-{
-    if b <= a { a - b } else { b - a }
-}
-
 // x·under + rest.
 fn lifted(x: u32, under: u64, rest: u64) -> u64
     requires { ⌜ (x ≤ 65535) × (under ≤ 5242800000) × (rest ≤ 1000000000000000) ⌝ }
-    ensures { λ r. ⌜ r ≡ x * under + rest ⌝ }
+    ensures { λ r. ⌜ (r ≡ x * under + rest) × (r ≤ 2000000000000000) ⌝ }
 {
     (x as u64) * under + rest
+}
+
+// Whether a and b lie at most `bound` apart: the difference that wraps where a + bound is below b is then too large.
+fn within(a: u64, b: u64, bound: u64) -> bool
+    requires { ⌜ (a ≤ 2000000000000000) × (b ≤ 2000000000000000) × (bound ≤ 60000000000000000) ⌝ }
+    ensures { λ r. ⌜ r ≡ leb (apart a b) bound ⌝ }
+{
+    wrapping_sub_u64(a + bound, b) <= 2 * bound
 }
 
 // Whether a code lies within the bound of an exact value.
 pub fn within_bound(bound: u64, x: Exact, code: u16) -> bool
     requires { ⌜ Small x ⌝ }
+    requires { ⌜ bound ≤ 60000000000000000 ⌝ }
     ensures { λ r. ⌜ r ≡ leb (distance x code) bound ⌝ }
 {
-    let off = apart(
+    within(
         lifted(code as u32, x.under, x.minus),
         lifted(x.bias, x.under, x.plus),
-    );
-    off <= bound
+        bound,
+    )
 }

@@ -3,5 +3,7 @@ pub mod Samples
 pub mod Rows
 pub mod Walked
 pub mod Parts
+pub mod Pairs
+pub mod Quads
 pub mod Unique
 pub mod Joined

@@ -40,8 +40,11 @@ module _ {s : Settings} {k : Named} {j : Judge} (h : Judging s k j) where
   own-sized true a b t l x = sized (h .cb) t l x a b
   own-sized false a b t l x = sized (h .cr) t l x a b
 
-  pub own-small : (u a b : Bool) {q : Limit} → q ≡ ownLimit j u a b → q .under ≤ 5242800000
-  own-small u a b e = subst (λ (q : Limit). q .under ≤ 5242800000) (sym e) (own-sized u a b (λ _. black) (λ _. black) 0 .small)
+  -- in the ranges of the test
+  pub own-fits : (u a b : Bool) {q : Limit} → q ≡ ownLimit j u a b → (q .under ≤ 5242800000) × (q .bound ≤ 60000000000000000)
+  own-fits u a b e =
+      let l = own-sized u a b (λ _. black) (λ _. black) 0 in
+      subst (λ (q : Limit). (q .under ≤ 5242800000) × (q .bound ≤ 60000000000000000)) (sym e) (l .small, l .close)
     where
       black : Pixel
       black = record { red = 0; green = 0; blue = 0 }

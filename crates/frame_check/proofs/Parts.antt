@@ -18,7 +18,7 @@ use Rattle.samples.specs.Tiles.{leftOf, wideAt, topOf, twoAt, tiles}
 use Rattle.samples.proofs.Tiles.{block-tiles, left-below, wide-below}
 use Rattle.frames.specs.Rows.{Rows, rowPixel, Shows}
 use Rattle.frames.proofs.Places.{part-shows}
-use Rattle.frame_check.specs.Samples.{pixelRight, blockRight, elementRight, lowOf}
+use Rattle.frame_check.specs.Samples.{pixelRight, blockRight, elementRight, secondOf}
 
 -- n elements from row × stride on lie in a buffer whose bytes a usize counts
 pub record Part (long stride row n : ℕ) : Type 0 where
@@ -62,17 +62,17 @@ tiles-same false true t t′ l l′ x p q r o = λ i. p i ∷ r refl i ∷ []
 tiles-same true true t t′ l l′ x p q r o = λ i. p i ∷ q refl i ∷ r refl i ∷ o refl refl i ∷ []
 
 -- the second row, where there is one
-second : (two : Bool) (t : ℕ) {u : ℕ} → u ≡ lowOf two t → two ≡ true → u ≡ t + 1
-second two t e h = e ∙ ap (λ (b : Bool). lowOf b t) h
+second : (two : Bool) (t : ℕ) {u : ℕ} → u ≡ secondOf two t → two ≡ true → u ≡ t + 1
+second two t e h = e ∙ ap (λ (b : Bool). secondOf b t) h
 
 -- lies in the picture
-pub low-below : (two : Bool) (t height : ℕ) {u : ℕ} → u ≡ lowOf two t → t < height → (two ≡ true → t + 1 < height) → u < height
-low-below true t height e h g = omega (arith, g refl)
-low-below false t height e h g = omega arith
+pub second-below : (two : Bool) (t height : ℕ) {u : ℕ} → u ≡ secondOf two t → t < height → (two ≡ true → t + 1 < height) → u < height
+second-below true t height e h g = omega (arith, g refl)
+second-below false t height e h g = omega arith
 
 module _ (s : Settings) (k : Named) (width height : ℕ) (px : Picture) (t u : ℕ) (two : Bool) (top low : List ℕ)
     (upper : Shows (s .channels) top px t width) (lower : Shows (s .channels) low px u width) where
-  element-shown : (row e v : ℕ) → t ≡ topOf (s .subsampling) row → two ≡ twoAt (s .subsampling) height t → u ≡ lowOf two t → e < chromaWidth (s .subsampling) width →
+  element-shown : (row e v : ℕ) → t ≡ topOf (s .subsampling) row → two ≡ twoAt (s .subsampling) height t → u ≡ secondOf two t → e < chromaWidth (s .subsampling) width →
       elementRight s k width two (rowPixel (s .channels) top) (rowPixel (s .channels) low) e v ≡ chromaRight s k width height px row e v
   unfolding elementRight blockRight
   element-shown row e v et eb eu h =
@@ -90,7 +90,7 @@ module _ (s : Settings) (k : Named) (width height : ℕ) (px : Picture) (t u : �
       ∙ sym (block-tiles sub width height px row (e / 2)))
 
 module _ (s : Settings) (k : Named) (f : Frame) (source chroma : List ℕ) where
-  pub chroma-shown : (row e n t u : ℕ) (two : Bool) {r : Bool} → t ≡ topOf (s .subsampling) row → two ≡ twoAt (s .subsampling) (f .height) t → u ≡ lowOf two t →
+  pub chroma-shown : (row e n t u : ℕ) (two : Bool) {r : Bool} → t ≡ topOf (s .subsampling) row → two ≡ twoAt (s .subsampling) (f .height) t → u ≡ secondOf two t →
       n ≡ f .width * count (s .channels) → (d : ℕ) → d ≡ chromaWidth (s .subsampling) (f .width) → e < d →
       r ≡ elementRight s k (f .width) two (rowPixel (s .channels) (part source (t * f .«source_stride») n)) (rowPixel (s .channels) (part source (u * f .«source_stride») n)) e
       (getD (part chroma (row * f .«chroma_stride») d) e 0) →

@@ -2,12 +2,15 @@
 use mathlib.Core.Path.{_≡_, sym, ap, _∙_}
 use mathlib.Core.Bool.{Bool}
 use mathlib.Core.List.{List}
-use Prim.Native.Nat.{ℕ, _/_, _<_}
+use Prim.Native.Nat.{ℕ, _/_, _<_, _≤_}
+use native.Mathlib.Omega.{arith}
 use Rattle.rules.specs.declared.Settings.{Settings}
 use Rattle.rules.specs.declared.Named.{Named}
 use Rattle.rules.specs.declared.Pixel.{Pixel}
 use Rattle.rules.specs.declared.YuvChromaSubsampling.{YuvChromaSubsampling}
-use Rattle.rules.specs.Channels.{isU}
+use Rattle.rules.specs.declared.YuvNVOrder.{YuvNVOrder}
+use Rattle.rules.specs.declared.YuvNVOrder.the-variants.{UV, VU}
+use Rattle.rules.specs.Channels.{uAt, vAt, isU}
 use Rattle.rules.specs.Blocks.{chromaWidth}
 use Rattle.samples.specs.Tiles.{leftOf, wideAt, tiles}
 use Rattle.samples.proofs.Tiles.{left-below, wide-below}
@@ -29,6 +32,15 @@ same-tile s width two pair e f = λ i. record { left = e i; wide = (f ∙ ap (wi
 -- lies in its row
 pub tile-fits : (s : YuvChromaSubsampling) (width : ℕ) (two : Bool) (e : ℕ) → e < chromaWidth s width → Fitting width (tileOf s width two (e / 2))
 tile-fits s width two e h = record { inside = left-below s width e h; beside = wide-below s width (leftOf s (e / 2)) }
+
+-- a U and a V are the first or the second of their pair
+pub u-low : (o : YuvNVOrder) → uAt o ≤ 1
+u-low UV = omega arith
+u-low VU = omega arith
+
+pub v-low : (o : YuvNVOrder) → vAt o ≤ 1
+v-low UV = omega arith
+v-low VU = omega arith
 
 -- and its test is that of the element
 pub element-is : (s : Settings) (k : Named) (width : ℕ) (two : Bool) (top low : List ℕ) (e v : ℕ) {u r : Bool} {t : Tile} →

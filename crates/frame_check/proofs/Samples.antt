@@ -3,13 +3,12 @@ use mathlib.Core.Path.{_≡_, refl, sym, ap, _∙_}
 use mathlib.Core.Bool.{Bool, true, false, _&&_}
 use mathlib.Core.List.{List, [], _∷_}
 use Prim.Native.Nat.{ℕ, _-_, _*_}
-use lib.Dec.{leb}
 use lib.ListN.{length}
 use Rattle.rules.specs.declared.Settings.{Settings}
 use Rattle.rules.specs.declared.Named.{Named}
 use Rattle.rules.specs.declared.Pixel.{Pixel}
 use Rattle.rules.specs.Ranges.{most, biasUV, rangeUV}
-use Rattle.rules.specs.Storage.{wellFormed, stored}
+use Rattle.rules.specs.Storage.{stored}
 use Rattle.rules.specs.Fractions.{Fraction, exactLuma, halves}
 use Rattle.rules.specs.Check.{right}
 use Rattle.tolerance_laws.specs.Chroma.{ownK, exactChroma}
@@ -17,36 +16,35 @@ use Rattle.samples.specs.Tiles.{tiles}
 use Rattle.fractions.specs.declared.Exact.{Exact}
 use Rattle.fractions.specs.declared.Sums.{Sums}
 use Rattle.fractions.specs.Exact.{Exactly}
-use Rattle.fractions.specs.Bound.{distance, boundOf}
+use Rattle.fractions.specs.Bound.{boundOf}
 use Rattle.fractions.specs.Sums.{sumsOf, lumaBy, ownSum, chromaBy}
 use Rattle.fractions.proofs.Passes.{judged}
 use Rattle.fractions.proofs.Values.{luma-of, chroma-of}
 use Rattle.frame_check.specs.declared.judge.Limit.{Limit}
 use Rattle.frame_check.specs.declared.judge.Judge.{Judge}
 use Rattle.frame_check.specs.Judging.{Judging}
-use Rattle.frame_check.specs.Samples.{rightBy, pixelRight, blockRight, ownLimit}
+use Rattle.frame_check.specs.Samples.{isFormed, nearBy, rightBy, pixelRight, blockRight, ownLimit}
 use Rattle.frame_check.proofs.Limits.{own-sized}
 
 -- a word is right by the fraction that an exact value stands for
 by-fraction : (s : Settings) (h v : ℕ) {bound : ℕ} {x : Exact} {g f : Fraction} → Exactly g x → g ≡ f →
     bound ≡ boundOf (s .precision) (most (s .depth)) h (f .under) → rightBy s bound x v ≡ right s h f v
 by-fraction s h v e q o =
-    ap (λ (b : Bool). wellFormed (s .packing) (s .endianness) (s .depth) v && b)
+    ap (λ (b : Bool). isFormed s v && b)
     (judged (s .precision) (most (s .depth)) h (stored (s .packing) (s .endianness) (s .depth) v) e q o)
 
 -- the divisor of Cb or Cr
-chroma-under : (u : Bool) (k : Named) (m bias range : ℕ) (b : List Pixel) → 2 * (10000 - ownK u k) * length b * m ≡ exactChroma u k m bias range b .under
+pub chroma-under : (u : Bool) (k : Named) (m bias range : ℕ) (b : List Pixel) → 2 * (10000 - ownK u k) * length b * m ≡ exactChroma u k m bias range b .under
 chroma-under true k m bias range b = refl
 chroma-under false k m bias range b = refl
 
 -- the test of a word by cases: malformed, or formed with this code
 module _ (s : Settings) (bound : ℕ) (x : Exact) (v : ℕ) where
-  pub malformed : wellFormed (s .packing) (s .endianness) (s .depth) v ≡ false → false ≡ rightBy s bound x v
-  malformed e = sym (ap (λ (b : Bool). b && leb (distance x (stored (s .packing) (s .endianness) (s .depth) v)) bound) e)
+  pub malformed : isFormed s v ≡ false → false ≡ rightBy s bound x v
+  malformed e = sym (ap (λ (b : Bool). b && nearBy s bound x v) e)
 
-  pub formed : {r : Bool} {c : ℕ} → wellFormed (s .packing) (s .endianness) (s .depth) v ≡ true → c ≡ stored (s .packing) (s .endianness) (s .depth) v →
-      r ≡ leb (distance x c) bound → r ≡ rightBy s bound x v
-  formed e f g = g ∙ ap (λ (n : ℕ). leb (distance x n) bound) f ∙ sym (ap (λ (b : Bool). b && leb (distance x (stored (s .packing) (s .endianness) (s .depth) v)) bound) e)
+  pub formed : isFormed s v ≡ true → nearBy s bound x v ≡ rightBy s bound x v
+  formed e = sym (ap (λ (b : Bool). b && nearBy s bound x v) e)
 
 module _ (s : Settings) (k : Named) (j : Judge) (h : Judging s k j) (v : ℕ) where
   pub luma-judged : (p : Pixel) {x : Exact} → Exactly (lumaBy k (j .ranges .«bias_y») (j .ranges .«range_y») (j .luma .under) (sumsOf (p ∷ []))) x →

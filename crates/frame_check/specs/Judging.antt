@@ -15,12 +15,14 @@ pub record Limiting (precision m h under : ℕ) (l : Limit) : Type 0 where
   pub divisor : l .under ≡ under
   pub bound : l .bound ≡ boundOf precision m h under
   pub small : l .under ≤ 5242800000
+  pub close : l .bound ≤ 60000000000000000
 
 -- the limits of Cb or Cr by the K of the channel's own: "one half more for chroma of two or four pixels"
 pub record Sizing (precision m own : ℕ) (l : Limits) : Type 0 where
   pub one : Limiting precision m 1 (2 * (10000 - own) * 1 * m) (l .one)
   pub two : Limiting precision m 2 (2 * (10000 - own) * 2 * m) (l .two)
   pub four : Limiting precision m 2 (2 * (10000 - own) * 4 * m) (l .four)
+  pub repeated : Limiting precision m 1 (2 * (10000 - own) * 4 * m) (l .repeated)
 
 pub record Judging (s : Settings) (k : Named) (j : Judge) : Type 0 where
   pub whole : k .kr + k .kb ≤ 10000

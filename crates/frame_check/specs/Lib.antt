@@ -1,3 +1,4 @@
 pub mod Judging
 pub mod Samples
+pub mod Quads
 pub mod Walks

@@ -5,6 +5,7 @@ use mathlib.Core.Path.{_≡_}
 use mathlib.Core.Bool.{Bool, true, false, _&&_, cond}
 use mathlib.Core.List.{List, [], _∷_}
 use lib.Dec.{leb}
+use lib.ListN.{length, getD}
 use Rattle.rules.specs.declared.Settings.{Settings}
 use Rattle.rules.specs.declared.Named.{Named}
 use Rattle.rules.specs.declared.Pixel.{Pixel}
@@ -25,10 +26,21 @@ use Rattle.frame_check.specs.declared.judge.Limits.{Limits}
 use Rattle.frame_check.specs.declared.judge.Judge.{Judge}
 use Rattle.frame_check.specs.declared.sample.Tile.{Tile}
 
--- a word is well formed, and its code within a bound of an exact value
+-- a word is well formed
+abbrev pub isFormed : Settings → ℕ → Bool
+isFormed s v = wellFormed (s .packing) (s .endianness) (s .depth) v
+
+-- all words of a row part are
+pub record AllFormed (s : Settings) (part : List ℕ) : Type 0 where
+  pub each : (e : ℕ) → e < length part → isFormed s (getD part e 0) ≡ true
+
+-- the code of a word is within a bound of an exact value
+abbrev pub nearBy : Settings → ℕ → Exact → ℕ → Bool
+nearBy s bound x v = leb (distance x (stored (s .packing) (s .endianness) (s .depth) v)) bound
+
+-- both
 abbrev pub rightBy : Settings → ℕ → Exact → ℕ → Bool
-rightBy s bound x v =
-    wellFormed (s .packing) (s .endianness) (s .depth) v && leb (distance x (stored (s .packing) (s .endianness) (s .depth) v)) bound
+rightBy s bound x v = isFormed s v && nearBy s bound x v
 
 -- a word is right as the luma of a pixel
 abbrev pub pixelRight : Settings → Named → Pixel → ℕ → Bool
@@ -69,6 +81,6 @@ elementRight s k width two top low e v =
     let x = leftOf (s .subsampling) (e / 2) in
     blockRight s k (isU (s .order) e) (tiles (wideAt (s .subsampling) width x) two top low x) v
 
--- the second source row of a chroma row; where there is none, the first again
-abbrev pub lowOf : Bool → ℕ → ℕ
-lowOf two top = cond two (top + 1) top
+-- the second column or row of a block; where there is none, the first again
+abbrev pub secondOf : Bool → ℕ → ℕ
+secondOf two first = cond two (first + 1) first

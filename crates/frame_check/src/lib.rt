@@ -15,7 +15,10 @@ ghost use Rattle.rule_laws.specs.Usable.{Reach};
 ghost use Rattle.frames.specs.Rows.{Rows};
 ghost use Rattle.frames.specs.Tests.{Sized};
 
+mod formed;
 mod judge;
+mod passed;
+mod quad;
 mod row;
 mod sample;
 mod walk;

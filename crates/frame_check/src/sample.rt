@@ -1,13 +1,14 @@
 // The test of one sample by its exact fraction, over whole numbers.
 ghost use mathlib.Core.Path.{_≡_};
-ghost use Prim.Native.Nat.{_+_, _*_, _≤_};
+ghost use mathlib.Core.Bool.{true};
+ghost use Prim.Native.Nat.{_+_, _*_, _<_, _≤_};
 ghost use lib.ListN.{length};
 ghost use Rattle.rules.specs.Channels.{count};
 ghost use Rattle.rule_laws.specs.Usable.{Reach};
 ghost use Rattle.fractions.specs.Exact.{Small, Exactly};
 ghost use Rattle.fractions.specs.Sums.{sumsOf, ownSum, chromaBy, UpToFour, Modest};
 ghost use Rattle.frame_check.specs.Judging.{Judging};
-ghost use Rattle.frame_check.specs.Samples.{rightBy, pixelRight, blockRight, limitFor, ownLimit, Fitting, tiled};
+ghost use Rattle.frame_check.specs.Samples.{isFormed, nearBy, rightBy, pixelRight, blockRight, limitFor, ownLimit, Fitting, tiled, secondOf};
 use crate::judge::Judge;
 use crate::judge::Limit;
 use crate::judge::Limits;
@@ -30,10 +31,29 @@ pub struct Tile {
     pub two: bool,
 }
 
+// The second column or row of a block; where there is none, the first again.
+pub fn second(two: bool, first: usize) -> usize
+    requires { ⌜ first < 18446744073709551615 ⌝ }
+    ensures { λ r. ⌜ r ≡ secondOf two first ⌝ }
+{
+    if two { first + 1 } else { first }
+}
+
+// Whether the code of a word is within a bound of an exact value.
+pub fn near_by(s: Settings, bound: u64, x: Exact, v: u16) -> bool
+    requires { ⌜ Reach s ⌝ }
+    requires { ⌜ (Small x) × (bound ≤ 60000000000000000) ⌝ }
+    ensures { λ r. ⌜ r ≡ nearBy s bound x v ⌝ }
+{
+    let packing = s.packing;
+    let endianness = s.endianness;
+    bound::within_bound(bound, x, storage::stored(packing, endianness, s.depth, v))
+}
+
 // Whether a word is well formed, and its code within a bound of an exact value.
 fn right_by(s: Settings, bound: u64, x: Exact, v: u16) -> bool
     requires { ⌜ Reach s ⌝ }
-    requires { ⌜ Small x ⌝ }
+    requires { ⌜ (Small x) × (bound ≤ 60000000000000000) ⌝ }
     ensures { λ r. ⌜ r ≡ rightBy s bound x v ⌝ }
 {
     let packing = s.packing;
@@ -41,7 +61,20 @@ fn right_by(s: Settings, bound: u64, x: Exact, v: u16) -> bool
     if !storage::well_formed(packing, endianness, s.depth, v) {
         return false;
     }
-    bound::within_bound(bound, x, storage::stored(packing, endianness, s.depth, v))
+    near_by(s, bound, x, v)
+}
+
+// Whether a well-formed word is right as the luma of a pixel.
+pub fn luma_near(s: Settings, k: Named, j: Judge, p: Pixel, v: u16) -> bool
+    requires { ⌜ Reach s ⌝ }
+    requires { ⌜ Judging s k j ⌝ }
+    requires { ⌜ isFormed s v ≡ true ⌝ }
+    ensures { λ r. ⌜ r ≡ pixelRight s k p v ⌝ }
+{
+    let g = j.ranges;
+    let l = j.luma;
+    let x = value::exact_luma(k, g.bias_y, g.range_y, l.under, p);
+    near_by(s, l.bound, x, v)
 }
 
 // Whether a word is right as the luma of a pixel.
@@ -89,7 +122,7 @@ fn own_limit(j: Judge, u: bool, t: Tile) -> Limit
 }
 
 // The exact Cb of a U, the exact Cr of a V.
-fn exact_chroma(u: bool, k: Named, bias: u32, range: u32, under: u64, b: Sums) -> Exact
+pub fn exact_chroma(u: bool, k: Named, bias: u32, range: u32, under: u64, b: Sums) -> Exact
     requires { ⌜ Modest k bias range under ⌝ }
     requires { ⌜ UpToFour b ⌝ }
     ensures { λ r. ⌜ Exactly (chromaBy k bias range under (ownSum u b) b) r ⌝ }

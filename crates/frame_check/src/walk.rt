@@ -1,6 +1,5 @@
 // The walks through the two planes, row by row and element by element, each left at the first wrong sample.
-ghost use mathlib.Core.Path.{_≡_};
-ghost use Prim.Native.Nat.{_*_, _<_};
+ghost use Prim.Native.Nat.{_*_};
 ghost use lib.ListN.{length};
 ghost use Rattle.rules.specs.Channels.{count, picture};
 ghost use Rattle.rules.specs.Blocks.{chromaWidth, chromaHeight};
@@ -9,10 +8,11 @@ ghost use Rattle.rule_laws.specs.Usable.{Reach};
 ghost use Rattle.frames.specs.Rows.{Rows};
 ghost use Rattle.frames.specs.Tests.{Sized};
 ghost use Rattle.frame_check.specs.Judging.{Judging};
-ghost use Rattle.frame_check.specs.Samples.{lowOf};
 ghost use Rattle.frame_check.specs.Walks.{Finds};
 use crate::judge::Judge;
+use crate::passed;
 use crate::row;
+use crate::sample;
 use rules::Frame;
 use rules::Named;
 use rules::Settings;
@@ -48,21 +48,14 @@ pub fn walk_luma(s: Settings, k: Named, j: Judge, f: Frame, source: &[u16], luma
         let luma_from = row * f.luma_stride;
         let luma_to = luma_from + width;
         let samples = &luma[luma_from..luma_to];
-        for column in 0..width {
+        let passed = passed::luma_passed(s, k, j, width, line, samples);
+        for column in passed..width {
             if !row::luma_at(s, k, j, width, line, samples, column) {
                 break 'walk Found::At(row, column);
             }
         }
         row += 1;
     }
-}
-
-// The second source row of a chroma row; where there is none, the first again, of which nothing is then read.
-fn lower(two: bool, top: usize) -> usize
-    requires { ⌜ top < 16384 ⌝ }
-    ensures { λ r. ⌜ r ≡ lowOf two top ⌝ }
-{
-    if two { top + 1 } else { top }
 }
 
 // Through chroma: each element is judged by the pixels of its block, in one or two source rows.
@@ -97,13 +90,14 @@ pub fn walk_chroma(
         let top_from = t * f.source_stride;
         let top_to = top_from + across;
         let top = &source[top_from..top_to];
-        let low_from = lower(two, t) * f.source_stride;
+        let low_from = sample::second(two, t) * f.source_stride;
         let low_to = low_from + across;
         let low = &source[low_from..low_to];
         let chroma_from = row * f.chroma_stride;
         let chroma_to = chroma_from + wide;
         let samples = &chroma[chroma_from..chroma_to];
-        for element in 0..wide {
+        let passed = passed::chroma_passed(s, k, j, width, two, top, low, samples);
+        for element in passed..wide {
             if !row::chroma_at(s, k, j, width, two, top, low, samples, element) {
                 break 'walk Found::At(row, element);
             }

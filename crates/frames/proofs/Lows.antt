@@ -1,7 +1,7 @@
 -- Rows and pictures of which no sample exceeds m, and that nothing is found in them. Assumes nothing.
-use mathlib.Core.Path.{_≡_}
+use mathlib.Core.Path.{_≡_, ap}
 use mathlib.Core.List.{List}
-use Prim.Native.Nat.{ℕ, _*_, _≤_, _<_}
+use Prim.Native.Nat.{ℕ, _+_, _*_, _%_, _≤_, _<_}
 use native.Mathlib.Nat.{le-trans}
 use native.Mathlib.Omega.{arith}
 use lib.ListN.{length, getD}
@@ -35,6 +35,18 @@ flat-low c m width part fits h =
           let e = step-le x width (count c) (length part) b fits in
           record { red = h _ (omega (arith, k .red)); green = h _ (omega (arith, k .green)); blue = h _ (omega (arith, k .blue)) };
     }
+
+-- every element of a part but each fourth, where alpha stands
+pub colour-low : (c : YuvSourceChannels) (m width : ℕ) (part : List ℕ) → count c ≡ 4 → width * count c ≤ length part → ((i : ℕ) → i < length part → i % 4 < 3 → getD part i 0 ≤ m)
+    → LowRow m (rowPixel c part) width
+colour-low c m width part four fits h =
+    record { low = λ x b. let k = places c in record { red = one x b _ (k .red); green = one x b _ (k .green); blue = one x b _ (k .blue) } }
+  where
+    one : (x : ℕ) → x < width → (k : ℕ) → k < 3 → getD part (x * count c + k) 0 ≤ m
+    one x b k l =
+        let e = step-le x width (count c) (length part) b fits in
+        let d : x * count c ≡ x * 4 = ap (λ (n : ℕ). x * n) four in
+        h _ (omega arith) (omega arith)
 
 -- every element of a source
 pub all-low : (c : YuvSourceChannels) (m stride width height : ℕ) (source : List ℕ) → ((i : ℕ) → getD source i 0 ≤ m) → LowPicture m (picture c stride source) width height

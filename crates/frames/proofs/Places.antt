@@ -19,17 +19,19 @@ use Rattle.plane_laws.proofs.Tables.{step-le}
 use Rattle.frames.specs.Rows.{Shows, Part}
 use Rattle.frames.specs.Tests.{Sized, Ready}
 
+-- the colour samples are the first three of a pixel
 pub record Places (c : YuvSourceChannels) : Type 0 where
-  pub red : redAt c < count c
-  pub green : greenAt c < count c
-  pub blue : blueAt c < count c
+  pub red : redAt c < 3
+  pub green : greenAt c < 3
+  pub blue : blueAt c < 3
+  pub least : 3 ≤ count c
   pub most : count c ≤ 4
 
 pub places : (c : YuvSourceChannels) → Places c
-places Rgb = record { red = lit< tt; green = lit< tt; blue = lit< tt; most = lit≤ tt }
-places Rgba = record { red = lit< tt; green = lit< tt; blue = lit< tt; most = lit≤ tt }
-places Bgra = record { red = lit< tt; green = lit< tt; blue = lit< tt; most = lit≤ tt }
-places Bgr = record { red = lit< tt; green = lit< tt; blue = lit< tt; most = lit≤ tt }
+places Rgb = record { red = lit< tt; green = lit< tt; blue = lit< tt; least = lit≤ tt; most = lit≤ tt }
+places Rgba = record { red = lit< tt; green = lit< tt; blue = lit< tt; least = lit≤ tt; most = lit≤ tt }
+places Bgra = record { red = lit< tt; green = lit< tt; blue = lit< tt; least = lit≤ tt; most = lit≤ tt }
+places Bgr = record { red = lit< tt; green = lit< tt; blue = lit< tt; least = lit≤ tt; most = lit≤ tt }
 
 -- a row of the greatest width
 pub row-small : (f : Frame) (c : YuvSourceChannels) → Sized f → f .width * count c ≤ 65536
@@ -45,9 +47,9 @@ pixel-part : (c : YuvSourceChannels) (source : List ℕ) (a n at : ℕ) → at +
 pixel-part c source a n at h =
     λ j. record { red = one (redAt c) (places c .red) j; green = one (greenAt c) (places c .green) j; blue = one (blueAt c) (places c .blue) j }
   where
-    one : (k : ℕ) → k < count c → getD (take n (drop a source)) (at + k) 0 ≡ getD source (a + at + k) 0
+    one : (k : ℕ) → k < 3 → getD (take n (drop a source)) (at + k) 0 ≡ getD source (a + at + k) 0
     one k b =
-        getD-take n (drop a source) (at + k) 0 (omega arith)
+        getD-take n (drop a source) (at + k) 0 (omega (arith, places c .least))
         ∙ getD-drop a source (at + k) 0
         ∙ ap (λ (m : ℕ). getD source m 0) (sym (add-assoc a at k))
 

@@ -61,7 +61,7 @@ laid s f source luma chroma a b h =
     let z = not (eqb chroma (chromaHeight (s .subsampling) (f .height) * f .«chroma_stride»)) in
     let k = neither x (y || z) h in
     let l = neither y z (k .1) in
-    let g : 1 ≤ count (s .channels) = omega (arith, places (s .channels) .green) in
+    let g : 1 ≤ count (s .channels) = omega (arith, places (s .channels) .least) in
     let n : 1 * 1 ≤ f .width * count (s .channels) = mul-le-mul (a .wide) g in
     record {
       source = filled (omega (arith, b .source)) (b .source) (k .0);

@@ -1,6 +1,6 @@
 // Refusal 10: the first visible colour sample that exceeds m, row by row, pixel by pixel, red before green before blue.
 ghost use mathlib.Core.Path.{_≡_};
-ghost use Prim.Native.Nat.{ℕ, _*_, _<_, _≤_};
+ghost use Prim.Native.Nat.{ℕ, _*_, _%_, _<_, _≤_};
 ghost use lib.ListN.{length, getD};
 ghost use Rattle.rules.specs.Channels.{count, picture};
 ghost use Rattle.rules.specs.Frames.{place, firstBelow, highAt, tooLargeAt, isFound};
@@ -12,6 +12,7 @@ use rules::Pixel;
 use rules::Search;
 use rules::SourcePlace;
 use rules::YuvSourceChannels;
+use std::num::wrapping_add_u16;
 use yuv_support::channels::get_channels_count;
 
 pub fn is_found(s: Search) -> bool
@@ -49,13 +50,11 @@ fn high_at(m: u16, row: usize, pixel: usize, p: Pixel) -> Search
     Search::Nothing
 }
 
-fn greater(a: u16, b: u16) -> u16
+// A bound of both, by the bits of either: they exceed an m of 2^n - 1 only where a or b does.
+fn joined(a: u16, b: u16) -> u16
     ensures { λ r. ⌜ (a ≤ r) × (b ≤ r) ⌝ }
 {
-    if a < b {
-        return b;
-    }
-    a
+    a | b
 }
 
 // A bound of all elements of a part; in a loop with no exit the compiler takes many at once.
@@ -65,21 +64,46 @@ fn flat_most(part: &[u16]) -> u16
     let mut most = 0;
     let mut i = 0;
     while i < part.len() {
-        most = greater(most, part[i]);
+        most = joined(most, part[i]);
         i += 1;
     }
     most
 }
 
-// A bound of the colour samples of a row: where alpha stands among them, finding a close one takes no less time than the search.
+// A colour sample, and 0 in place of alpha, which stands at phase 0.
+fn colour(phase: u16, sample: u16) -> u16
+    ensures { λ r. ⌜ (0 < phase → r ≡ sample) ⌝ }
+{
+    if phase == 0 {
+        return 0;
+    }
+    sample
+}
+
+// A bound of all elements but each fourth, which is alpha; of a phase that wraps at 2^16 the compiler makes one mask for all turns.
+fn colour_most(part: &[u16]) -> u16
+    ensures { λ r. ⌜ ((i : ℕ) → i < length (now (part .entry)) → i % 4 < 3 → getD (now (part .entry)) i 0 ≤ r) ⌝ }
+{
+    let mut most = 0;
+    let mut phase = 0;
+    let mut i = 0;
+    while i < part.len() {
+        phase = wrapping_add_u16(phase, 16384);
+        most = joined(most, colour(phase, part[i]));
+        i += 1;
+    }
+    most
+}
+
+// A bound of the colour samples of a row.
 fn row_most(channels: YuvSourceChannels, width: usize, part: &[u16]) -> u16
     requires { ⌜ width * count channels ≤ length (now part) ⌝ }
     ensures { λ r. ⌜ LowRow r (rowPixel channels (now (part .entry))) width ⌝ }
 {
     match channels {
         YuvSourceChannels::Rgb => flat_most(part),
-        YuvSourceChannels::Rgba => 65535,
-        YuvSourceChannels::Bgra => 65535,
+        YuvSourceChannels::Rgba => colour_most(part),
+        YuvSourceChannels::Bgra => colour_most(part),
         YuvSourceChannels::Bgr => flat_most(part),
     }
 }

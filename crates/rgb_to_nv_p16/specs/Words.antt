@@ -8,7 +8,9 @@ use Rattle.rules.specs.declared.YuvChromaSubsampling.{YuvChromaSubsampling}
 use Rattle.rules.specs.Ranges.{biasY, biasUV}
 use Rattle.rules.specs.Weights.{lumaRow}
 use Rattle.rules.specs.Channels.{Picture, isU}
+use Rattle.rules.specs.Sample.{code}
 use Rattle.rules.specs.Blocks.{averaged}
+use Rattle.rules.specs.Storage.{packed}
 use Rattle.rules.specs.Convert.{wordOf}
 use Rattle.tolerance_laws.specs.Chroma.{chromaRow}
 use Rattle.samples.specs.Tiles.{leftOf, wideAt, tiles}
@@ -16,6 +18,10 @@ use Rattle.samples.specs.Tiles.{leftOf, wideAt, tiles}
 -- element x of a luma row
 abbrev pub lumaElement : Settings → Weights → (ℕ → Pixel) → ℕ → ℕ
 lumaElement s w p x = wordOf s (biasY (s .range) (s .depth)) (lumaRow w) (p x)
+
+-- the same before the bytes are exchanged
+abbrev pub packedLuma : Settings → Weights → (ℕ → Pixel) → ℕ → ℕ
+packedLuma s w p x = packed (s .packing) (s .depth) (code (s .precision) (biasY (s .range) (s .depth)) (lumaRow w) (p x))
 
 -- the picture of an upper row and a lower one
 abbrev pub twoRows : (ℕ → Pixel) → (ℕ → Pixel) → Picture
@@ -29,3 +35,8 @@ pairMean sub width two t u pair = averaged (tiles (wideAt sub width (leftOf sub 
 -- element k of a chroma row
 unfoldable pub chromaElement : Settings → Weights → ℕ → Bool → (ℕ → Pixel) → (ℕ → Pixel) → ℕ → ℕ
 chromaElement s w width two t u k = wordOf s (biasUV (s .depth)) (chromaRow (isU (s .order) k) w) (pairMean (s .subsampling) width two t u (k / 2))
+
+-- the same before the bytes are exchanged
+unfoldable pub packedChroma : Settings → Weights → ℕ → Bool → (ℕ → Pixel) → (ℕ → Pixel) → ℕ → ℕ
+packedChroma s w width two t u k =
+    packed (s .packing) (s .depth) (code (s .precision) (biasUV (s .depth)) (chromaRow (isU (s .order) k) w) (pairMean (s .subsampling) width two t u (k / 2)))

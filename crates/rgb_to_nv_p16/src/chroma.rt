@@ -1,7 +1,7 @@
 // A chroma row.
 ghost use mathlib.Core.Path.{_≡_};
 ghost use mathlib.Core.Bool.{true};
-ghost use Prim.Native.Nat.{_+_, _*_, _<_, _≤_};
+ghost use Prim.Native.Nat.{_+_, _*_, _%_, _<_, _≤_};
 ghost use lib.ListN.{length};
 ghost use Rattle.rules.specs.Channels.{count};
 ghost use Rattle.rules.specs.Blocks.{averaged, chromaWidth};
@@ -10,6 +10,7 @@ ghost use Rattle.rule_laws.specs.Usable.{Usable};
 ghost use Rattle.samples.specs.Tiles.{tiles};
 ghost use Rattle.frames.specs.Rows.{rowPixel, Part};
 ghost use Rattle.rgb_to_nv_p16.specs.Words.{chromaElement};
+ghost use Rattle.rgb_to_nv_p16.specs.Begun.{Begun};
 use frames::channels;
 use rules::Pixel;
 use rules::Settings;
@@ -50,12 +51,14 @@ fn block_mean(
     p
 }
 
-// A chroma row from two row parts of the source; the lower is read only where there are two rows.
+// What is left of a chroma row whose first pairs are written, from two row parts of the source; the lower is read only where
+// there are two rows.
 pub fn chroma_row(
     s: Settings,
     w: Weights,
     width: usize,
     two: bool,
+    from: usize,
     chroma: &mut [u16],
     upper: &[u16],
     lower: &[u16],
@@ -64,11 +67,12 @@ pub fn chroma_row(
     requires { ⌜ width ≤ 16384 ⌝ }
     requires { ⌜ length (now chroma) ≡ chromaWidth (s .subsampling) width ⌝ }
     requires { ⌜ (Part s width (now upper)) × (Part s width (now lower)) ⌝ }
+    requires { ⌜ (from % 2 ≡ 0) × Begun from (chromaElement s w width two (rowPixel (s .channels) (now upper)) (rowPixel (s .channels) (now lower))) (now chroma) ⌝ }
     ensures { λ _. ⌜ now (chroma .exit) ≡ tabulate (chromaWidth (s .subsampling) width) (chromaElement s w width two (rowPixel (s .channels) (now (upper .entry))) (rowPixel (s .channels) (now (lower .entry)))) ⌝ }
 {
     let channels = s.channels;
     let subsampling = s.subsampling;
-    let mut k = 0;
+    let mut k = from;
     while k < chroma.len() {
         let x = blocks::left(subsampling, k / 2);
         let wide = blocks::wide(subsampling, width, x);

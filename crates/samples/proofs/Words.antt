@@ -42,7 +42,7 @@ packed-in-place : (k : YuvBytesPacking) (d : ℕ) {c : ℕ} → c ≤ most d →
 packed-in-place MostSignificantBytes d {c} h = eq-eqb (c * 2 ^ (16 - d) % 2 ^ (16 - d)) 0 (mul-mod-left c (2 ^ (16 - d)))
 packed-in-place LeastSignificantBytes d {c} h = le-leb c (most d) h
 
-packed-fits : (k : YuvBytesPacking) (d : ℕ) {c : ℕ} → d ≤ 16 → c ≤ most d → packed k d c < 65536
+pub packed-fits : (k : YuvBytesPacking) (d : ℕ) {c : ℕ} → d ≤ 16 → c ≤ most d → packed k d c < 65536
 packed-fits MostSignificantBytes d deep h = lt-of-lt-of-le (shl-lt d (16 - d) (lt-of-le-ones d h)) (pow-mono {j = 16} (omega arith))
 packed-fits LeastSignificantBytes d deep h = lt-of-lt-of-le (lt-of-le-ones d h) (pow-mono {j = 16} deep)
 

@@ -1,6 +1,6 @@
 // The code of a pixel: the weighted sum, divided by 2^P and rounded down.
 ghost use mathlib.Core.Path.{_≡_};
-ghost use Prim.Native.Nat.{_≤_};
+ghost use Prim.Native.Nat.{_+_, _-_, _*_, _^_, _≤_};
 ghost use lib.IntN.{pos, natAbs, _*ℤ_};
 ghost use Rattle.rules.specs.Weights.{lumaRow, cbRow, crRow};
 ghost use Rattle.rules.specs.Sample.{weighted, signedCode, code};
@@ -53,13 +53,20 @@ fn weighted(w: Triple, p: Pixel) -> i64
     weigh(w.red, p.red) + weigh(w.green, p.green) + weigh(w.blue, p.blue)
 }
 
+// What a weighted sum starts from: the bias, and one less than a half, so that exact halves go down.
+pub fn start(precision: u32, bias: u32) -> u32
+    requires { ⌜ (1 ≤ precision) × (precision ≤ 13) × (bias ≤ 65535) ⌝ }
+    ensures { λ r. ⌜ r ≡ bias * 2 ^ precision + (2 ^ (precision - 1) - 1) ⌝ }
+{
+    (bias << precision) + ((1 << (precision - 1)) - 1)
+}
+
 // The code of a pixel, rounded down; whether it is 0 to m is not known yet.
 pub fn signed_code(precision: u32, bias: u32, w: Triple, p: Pixel) -> i64
     requires { ⌜ (1 ≤ precision) × (precision ≤ 13) × (bias ≤ 65535) ⌝ }
     ensures { λ r. ⌜ r ≡ signedCode precision bias w p ⌝ }
 {
-    let start = (bias << precision) + ((1 << (precision - 1)) - 1);
-    let sum = weighted(w, p) + (start as i64);
+    let sum = weighted(w, p) + (start(precision, bias) as i64);
     sum >> precision
 }
 

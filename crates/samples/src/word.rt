@@ -55,7 +55,7 @@ pub fn is_u(order: YuvNVOrder, element: usize) -> bool
 }
 
 // Cb's weights for a U, Cr's for a V.
-fn chroma_row(u: bool, w: Weights) -> Triple
+pub fn chroma_row(u: bool, w: Weights) -> Triple
     ensures { λ r. ⌜ r ≡ chromaRow u w ⌝ }
 {
     if u { code::cb_row(w) } else { code::cr_row(w) }

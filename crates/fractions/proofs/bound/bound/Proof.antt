@@ -1,7 +1,7 @@
 -- `bound` meets its contract: the product does not pass 64 bits, and the divisor is not 0. Assumes nothing.
 use mathlib.Core.Path.{ap, _∙_}
-use Prim.Native.Nat.{ℕ, _+_, _*_, _/_}
-use native.Mathlib.Nat.{mul-le-mul}
+use Prim.Native.Nat.{ℕ, _+_, _*_, _/_, _≤_}
+use native.Mathlib.Nat.{mul-le-mul, div-le-self}
 use native.Mathlib.Omega.{arith}
 use borrow.Author.Needs.{needs}
 use Rattle.fractions.proofs.bound.bound.Statement.{statement}
@@ -13,8 +13,11 @@ power-requires c κs = search needs
 tolerance-requires : tie.Need-tolerance-requires
 tolerance-requires c κs = search needs
 
+product : (c : tie.After-tolerance) → c .before .before .args .under * c .tolerance .result ≤ 5242800000 * 10846055
+product c = mul-le-mul (c .before .before .pre .under≤) (c .tolerance .ensures .1)
+
 mul-result : tie.Need-mul-result
-mul-result c = omega (arith, mul-le-mul (c .before .before .pre .under≤) (c .tolerance .ensures .1))
+mul-result c = omega (arith, product c)
 
 mul-result-2 : tie.Need-mul-result-2
 mul-result-2 c = search needs
@@ -27,7 +30,7 @@ returns c =
     let a = c .before .before .args in
     let q = c .before .power .ensures .0 in
     let t = c .tolerance .ensures .0 ∙ ap (λ (q : ℕ). 50 * a .halves * q + 153 * a .m) q in
-    λ i. a .under * t i / (100 * q i)
+    (λ i. a .under * t i / (100 * q i), omega (arith, product c, div-le-self (a .under * c .tolerance .result) (100 * c .before .power .result)))
 
 pub bound-spec : {M : Type 1} → statement M
 bound-spec =

@@ -16,7 +16,7 @@ add-result : tie.Need-add-result
 add-result c = omega (arith, product c)
 
 returns : tie.Need-returns
-returns c = search needs
+returns c = (search needs, omega (arith, product c))
 
 pub lifted-spec : {M : Type 1} → statement M
 lifted-spec = tie.close (tie.spec mul-result add-result returns)

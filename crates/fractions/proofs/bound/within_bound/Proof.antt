@@ -1,6 +1,5 @@
 -- `within_bound` meets its contract. Assumes nothing.
-use mathlib.Core.Path.{ap, _∙_}
-use Prim.Native.Nat.{ℕ}
+use mathlib.Core.Path.{_∙_}
 use lib.Dec.{leb}
 use borrow.Author.Needs.{needs}
 use Rattle.fractions.specs.Bound.{apart}
@@ -13,13 +12,13 @@ lifted-requires c κs = search needs
 lifted-requires-2 : tie.Need-lifted-requires-2
 lifted-requires-2 c κs = search needs
 
-apart-requires : tie.Need-apart-requires
-apart-requires c κs = search needs
+within-requires : tie.Need-within-requires
+within-requires c κs = (c .before .lifted .ensures .1, c .lifted2 .ensures .1, c .before .before .pre .1)
 
 returns : tie.Need-returns
 returns c =
-    ap (λ (n : ℕ). leb n (c .before .before .before .args .bound))
-    (c .apart .ensures ∙ λ i. apart (c .before .before .lifted .ensures i) (c .before .lifted2 .ensures i))
+    c .within .ensures
+    ∙ λ i. leb (apart (c .before .before .lifted .ensures .0 i) (c .before .lifted2 .ensures .0 i)) (c .before .before .before .args .bound)
 
 pub within-bound-spec : {M : Type 1} → statement M
-within-bound-spec = tie.close (tie.spec lifted-requires lifted-requires-2 apart-requires returns)
+within-bound-spec = tie.close (tie.spec lifted-requires lifted-requires-2 within-requires returns)

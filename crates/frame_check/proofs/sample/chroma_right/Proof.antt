@@ -2,7 +2,7 @@
 use borrow.Author.Needs.{needs}
 use mathlib.Core.Path.{_∙_}
 use Rattle.frames.specs.Rows.{rowPixel}
-use Rattle.frame_check.proofs.Limits.{own-small, chroma-modest}
+use Rattle.frame_check.proofs.Limits.{own-fits, chroma-modest}
 use Rattle.frame_check.proofs.Samples.{chroma-judged}
 use Rattle.frame_check.proofs.sample.chroma_right.Statement.{statement}
 use Rattle.frame_check.proofs.sample.chroma_right.Tie as tie
@@ -18,10 +18,14 @@ exact-chroma-requires c κs =
     let m = c .before .before in
     let b = m .before .before .before in
     let a = b .args in
-    (chroma-modest (b .pre .1 .0) (b .pre .0) (own-small (b .pre .1 .0) (a .u) (a .t .wide) (a .t .two) (c .own-limit .ensures)), m .sums .ensures .1)
+    (chroma-modest (b .pre .1 .0) (b .pre .0) (own-fits (b .pre .1 .0) (a .u) (a .t .wide) (a .t .two) (c .own-limit .ensures) .0), m .sums .ensures .1)
 
 right-by-requires : tie.Need-right-by-requires
-right-by-requires c κs = search needs
+right-by-requires c κs =
+    let l = c .before in
+    let b = l .before .before .before .before .before in
+    let a = b .args in
+    (b .pre .0, (c .exact-chroma .ensures .small, own-fits (b .pre .1 .0) (a .u) (a .t .wide) (a .t .two) (l .own-limit .ensures) .1))
 
 returns : tie.Need-returns
 returns c =

@@ -1,5 +1,4 @@
 -- `frame_check::sample::luma_right` meets its contract. Assumes nothing.
-use borrow.Author.Needs.{needs}
 use mathlib.Core.Path.{_∙_}
 use Rattle.frame_check.proofs.Limits.{luma-modest}
 use Rattle.frame_check.proofs.Samples.{luma-judged}
@@ -10,7 +9,7 @@ exact-luma-requires : tie.Need-exact-luma-requires
 exact-luma-requires c κs = let b = c .before .before in luma-modest (b .pre .1) (b .pre .0) (b .pre .1 .luma .small)
 
 right-by-requires : tie.Need-right-by-requires
-right-by-requires c κs = search needs
+right-by-requires c κs = let b = c .before .before .before in (b .pre .0, (c .exact-luma .ensures .small, b .pre .1 .luma .close))
 
 returns : tie.Need-returns
 returns c =

@@ -15,20 +15,17 @@ returns c =
     let a = b .before .args in
     malformed (a .s) (a .bound) (a .x) (a .v) (sym (b .well-formed .ensures) ∙ not-true _ (c .if1 .taken))
 
-stored-requires : tie.Need-stored-requires
-stored-requires c κs = search needs
-
-within-bound-requires : tie.Need-within-bound-requires
-within-bound-requires c κs = search needs
+near-by-requires : tie.Need-near-by-requires
+near-by-requires c κs = search needs
 
 returns-2 : tie.Need-returns-2
 returns-2 c =
-    let e = c .before .before in
+    let e = c .before in
     let b = e .before in
     let a = b .before .args in
-    formed (a .s) (a .bound) (a .x) (a .v) (sym (b .well-formed .ensures) ∙ not-false _ (e .if1 .left)) (c .before .stored .ensures) (c .within-bound .ensures)
+    c .near-by .ensures ∙ formed (a .s) (a .bound) (a .x) (a .v) (sym (b .well-formed .ensures) ∙ not-false _ (e .if1 .left))
 
 pub right-by-spec : {M : Type 1} → statement M
 right-by-spec =
     tie.close
-    (tie.spec well-formed-requires returns stored-requires within-bound-requires returns-2)
+    (tie.spec well-formed-requires returns near-by-requires returns-2)

@@ -2,25 +2,30 @@
 use borrow.Author.Needs.{needs}
 use mathlib.Core.Path.{_≡_, sym, ap, _∙_, subst}
 use borrow.Author.Tests.{not-true, not-false}
+use mathlib.Core.Bool.{Bool, false}
+use mathlib.Core.List.{List}
 use Prim.Native.Nat.{ℕ, _-_, _*_, _≤_, _<_}
 use native.Mathlib.Omega.{arith}
-use lib.ListN.{length}
+use native.Mathlib.Nat.{lt-of-lt-of-le}
+use lib.ListN.{length, getD}
 use Rattle.rules.specs.Channels.{count, picture}
 use Rattle.rules.specs.Blocks.{chromaWidth, chromaHeight}
 use Rattle.rules.specs.Check.{Clean, chromaTest}
 use Rattle.samples.proofs.Tiles.{height-small, top-below, two-below}
+use Rattle.frames.specs.Rows.{rowPixel}
 use Rattle.frames.proofs.Places.{row-small}
-use Rattle.frame_check.proofs.Walked.{CleanRow, row-none, row-more, clean-none, clean-more, clean-all, first-wrong}
-use Rattle.frame_check.proofs.Parts.{Part, part-of, part-long, low-below, chroma-shown}
+use Rattle.frame_check.specs.Samples.{elementRight, secondOf}
+use Rattle.frame_check.proofs.Walked.{CleanRow, row-more, clean-none, clean-more, clean-all, first-wrong}
+use Rattle.frame_check.proofs.Parts.{Part, part-of, part, part-long, second-below, chroma-shown}
 use Rattle.frame_check.proofs.walk.walk_chroma.Statement.{statement}
 use Rattle.frame_check.proofs.walk.walk_chroma.Tie as tie
 
 abbrev Inv-loop : tie.InvT-loop
-Inv-loop s k j f source chroma subsampling width height across wide rows row t two «top_from» «top_to» top «low_from» «low_to» low «chroma_from» «chroma_to» samples element₀ element =
+Inv-loop s k j f source chroma subsampling width height across wide rows row t two «top_from» «top_to» top «low_from» «low_to» low «chroma_from» «chroma_to» samples passed element₀ element =
     (element ≤ chromaWidth (s .subsampling) (f .width)) × CleanRow (chromaTest s k f (picture (s .channels) (f .«source_stride») source) chroma) row element
 
 abbrev μ-loop : tie.MeasureT-loop
-μ-loop s k j f source chroma subsampling width height across wide rows row t two «top_from» «top_to» top «low_from» «low_to» low «chroma_from» «chroma_to» samples element₀ element =
+μ-loop s k j f source chroma subsampling width height across wide rows row t two «top_from» «top_to» top «low_from» «low_to» low «chroma_from» «chroma_to» samples passed element₀ element =
     chromaWidth (s .subsampling) (f .width) - element
 
 abbrev Inv-walk : tie.InvT-walk
@@ -50,12 +55,12 @@ top-in c =
     let a = c .before .before .before .before .before .before .before .before .args in
     subst (λ (n : ℕ). n < a .f .height) (sym (c .top .ensures)) (top-below (a .s .subsampling) (a .f .height) (c .before .before .walk .row) (in-rows (c .before)))
 
-low-in : (c : tie.After-lower Inv-loop μ-loop Inv-walk μ-walk) → let b = c .before .before .before .before .before .before .before .before .before .before .before .before in c .lower .result < b .args .f .height
+low-in : (c : tie.After-second Inv-loop μ-loop Inv-walk μ-walk) → let b = c .before .before .before .before .before .before .before .before .before .before .before .before in c .second .result < b .args .f .height
 low-in c =
     let o = c .before .before .before in
     let t = o .before in
     let a = t .before .before .before .before .before .before .before .before .args in
-    low-below (o .two .result) (t .top .result) (a .f .height) (c .lower .ensures) (top-in t) (λ e. two-below (a .s .subsampling) (a .f .height) (t .top .result) (sym (o .two .ensures) ∙ e))
+    second-below (o .two .result) (t .top .result) (a .f .height) (c .second .ensures) (top-in t) (λ e. two-below (a .s .subsampling) (a .f .height) (t .top .result) (sym (o .two .ensures) ∙ e))
 
 -- where this turn's rows lie
 top-part : (c : tie.After-top Inv-loop μ-loop Inv-walk μ-walk) → let g = c .before .before .before .before .before in let a = g .before .before .before .args in
@@ -64,8 +69,8 @@ top-part c =
     let g = c .before .before .before .before .before in
     part-of (g .before .before .before .pre .1 .1 .0) (source-counted (g .before)) (top-in c) (wide g)
 
-low-part : (c : tie.After-lower Inv-loop μ-loop Inv-walk μ-walk) → let g = c .before .before .before .before .before .before .before .before .before in let a = g .before .before .before .args in
-    Part (length (a .source .now)) (a .f .«source_stride») (c .lower .result) (a .f .width * g .get-channels-count .result)
+low-part : (c : tie.After-second Inv-loop μ-loop Inv-walk μ-walk) → let g = c .before .before .before .before .before .before .before .before .before in let a = g .before .before .before .args in
+    Part (length (a .source .now)) (a .f .«source_stride») (c .second .result) (a .f .width * g .get-channels-count .result)
 low-part c =
     let g = c .before .before .before .before .before .before .before .before .before in
     part-of (g .before .before .before .pre .1 .1 .0) (source-counted (g .before)) (low-in c) (wide g)
@@ -116,8 +121,8 @@ part-top-start c = omega arith
 part-top-end : tie.Need-part-top-end Inv-loop μ-loop Inv-walk μ-walk
 part-top-end c = top-part (c .before .before) .end
 
-lower-requires : tie.Need-lower-requires Inv-loop μ-loop Inv-walk μ-walk
-lower-requires c κs = let t = c .before .before .before in omega (arith, top-in t, t .before .before .before .before .before .before .before .before .pre .1 .0 .flat)
+second-requires : tie.Need-second-requires Inv-loop μ-loop Inv-walk μ-walk
+second-requires c κs = let t = c .before .before .before in omega (arith, top-in t, t .before .before .before .before .before .before .before .before .pre .1 .0 .flat)
 
 mul-low-from : tie.Need-mul-low-from Inv-loop μ-loop Inv-walk μ-walk
 mul-low-from c = let p = low-part (c .before) in omega (arith, p .end, p .counted)
@@ -155,38 +160,104 @@ part-samples-start c = omega arith
 part-samples-end : tie.Need-part-samples-end Inv-loop μ-loop Inv-walk μ-walk
 part-samples-end c = samples-part (c .before .before .before .before .before .before .before .before) .end
 
-loop-holds : tie.Need-loop-holds Inv-loop μ-loop Inv-walk μ-walk
-loop-holds c = (omega arith, row-none)
+-- this turn's row parts of the source, and of the plane
+topRow : tie.After-samples Inv-loop μ-loop Inv-walk μ-walk → List ℕ
+topRow c =
+    let t = c .before .before .before .before .before .before .before .before in
+    let g = t .before .before .before .before .before in
+    let a = g .before .before .before .args in
+    part (a .source .now) (t .top .result * a .f .«source_stride») (a .f .width * g .get-channels-count .result)
 
-chroma-at-requires : tie.Need-chroma-at-requires Inv-loop μ-loop Inv-walk μ-walk
-chroma-at-requires c κs =
-    let l = c .before .before .before .before .before .before in
+lowRow : tie.After-samples Inv-loop μ-loop Inv-walk μ-walk → List ℕ
+lowRow c =
+    let l = c .before .before .before .before in
+    let g = l .before .before .before .before .before .before .before .before .before in
+    let a = g .before .before .before .args in
+    part (a .source .now) (l .second .result * a .f .«source_stride») (a .f .width * g .get-channels-count .result)
+
+chromaRow : tie.After-samples Inv-loop μ-loop Inv-walk μ-walk → List ℕ
+chromaRow c =
+    let w = c .before .before .before .before .before .before .before .before .before .before in
+    let d = w .before .before in
+    let a = d .before .before .before .before .args in
+    part (a .chroma .now) (w .walk .row * a .f .«chroma_stride») (d .chroma-width .result)
+
+-- hold their rows
+long : (c : tie.After-samples Inv-loop μ-loop Inv-walk μ-walk) → let g = c .before .before .before .before .before .before .before .before .before .before .before .before .before in let a = g .before .before .before .args in
+    (a .f .width * count (a .s .channels) ≤ length (topRow c)) × (a .f .width * count (a .s .channels) ≤ length (lowRow c))
+unfolding topRow lowRow
+long c =
+    let l = c .before .before .before .before in
     let t = l .before .before .before .before in
-    let e = t .before in
-    let w = e .before .before .before in
-    let g = w .before in
-    let b = g .before .before .before in
-    let a = b .args in
+    let g = t .before .before .before .before .before in
+    let a = g .before .before .before .args in
     let n = a .f .width * g .get-channels-count .result in
-    let samples = part-long (a .chroma .now) (e .before .walk .row * a .f .«chroma_stride») (w .chroma-width .result) (samples-part e .end) in
     let top = part-long (a .source .now) (t .top .result * a .f .«source_stride») n (top-part t .end) in
-    let low = part-long (a .source .now) (l .lower .result * a .f .«source_stride») n (low-part l .end) in
-    let visible : c .before .loop .element < chromaWidth (a .s .subsampling) (a .f .width) = subst (λ (m : ℕ). c .before .loop .element < m) (w .chroma-width .ensures) (c .loop-test .taken) in
-    (b .pre .0 .0, (b .pre .0 .1, ((b .pre .1 .0 .narrow, visible, omega (arith, c .loop-test .taken, samples)), (omega (arith, wide g, top), omega (arith, wide g, low)))))
+    let low = part-long (a .source .now) (l .second .result * a .f .«source_stride») n (low-part l .end) in
+    (omega (arith, wide g, top), omega (arith, wide g, low))
 
--- what the test of this element says, of the buffers
-judged : (c : tie.After-chroma-at Inv-loop μ-loop Inv-walk μ-walk) → let l = c .before .before .before .before .before .before .before in let w = l .before .before .before .before .before .before in let a = w .before .before .before .before .before .before .args in
-    c .chroma-at .result ≡ chromaTest (a .s) (a .k) (a .f) (picture (a .s .channels) (a .f .«source_stride») (a .source .now)) (a .chroma .now) (w .walk .row) (c .before .before .loop .element)
-judged c =
-    let l = c .before .before .before .before .before .before .before in
+chroma-long : (c : tie.After-samples Inv-loop μ-loop Inv-walk μ-walk) → let d = c .before .before .before .before .before .before .before .before .before .before .before .before in length (chromaRow c) ≡ d .chroma-width .result
+unfolding chromaRow
+chroma-long c =
+    let e = c .before .before .before .before .before .before .before .before .before in
+    let d = e .before .before .before in
+    let a = d .before .before .before .before .args in
+    part-long (a .chroma .now) (e .before .walk .row * a .f .«chroma_stride») (d .chroma-width .result) (samples-part e .end)
+
+-- what a test of an element of the row parts says, of the buffers
+shown : (c : tie.After-samples Inv-loop μ-loop Inv-walk μ-walk) (e : ℕ) {r : Bool} → let o = c .before .before .before .before .before .before .before in let w = o .before .before .before in let a = w .before .before .before .before .before .before .args in
+    e < w .before .before .chroma-width .result →
+    r ≡ elementRight (a .s) (a .k) (a .f .width) (o .two .result) (rowPixel (a .s .channels) (topRow c)) (rowPixel (a .s .channels) (lowRow c)) e (getD (chromaRow c) e 0) →
+    r ≡ chromaTest (a .s) (a .k) (a .f) (picture (a .s .channels) (a .f .«source_stride») (a .source .now)) (a .chroma .now) (w .walk .row) e
+unfolding topRow lowRow chromaRow
+shown c e h q =
+    let l = c .before .before .before .before in
     let o = l .before .before .before in
     let t = o .before in
     let w = t .before .before in
     let d = w .before .before in
     let g = d .before in
     let a = g .before .before .before .args in
-    chroma-shown (a .s) (a .k) (a .f) (a .source .now) (a .chroma .now) (w .walk .row) (c .before .before .loop .element) (a .f .width * g .get-channels-count .result)
-    (t .top .result) (l .lower .result) (o .two .result) (t .top .ensures) (o .two .ensures) (l .lower .ensures) (wide g) (d .chroma-width .result) (d .chroma-width .ensures) (c .before .loop-test .taken) (c .chroma-at .ensures)
+    chroma-shown (a .s) (a .k) (a .f) (a .source .now) (a .chroma .now) (w .walk .row) e (a .f .width * g .get-channels-count .result)
+    (t .top .result) (l .second .result) (o .two .result) (t .top .ensures) (o .two .ensures) (l .second .ensures) (wide g) (d .chroma-width .result) (d .chroma-width .ensures) h q
+
+chroma-passed-requires : tie.Need-chroma-passed-requires Inv-loop μ-loop Inv-walk μ-walk
+unfolding topRow lowRow chromaRow
+chroma-passed-requires c κs =
+    let l = c .before .before .before .before in
+    let o = l .before .before .before in
+    let t = o .before in
+    let d = t .before .before .before .before in
+    let g = d .before in
+    let b = g .before .before .before in
+    let a = b .args in
+    let row : ℕ → List ℕ = λ r. part (a .source .now) (r * a .f .«source_stride») (a .f .width * g .get-channels-count .result) in
+    let same : o .two .result ≡ false → lowRow c ≡ topRow c = λ e. ap row (l .second .ensures ∙ ap (λ (two : Bool). secondOf two (t .top .result)) e) in
+    (b .pre .0, ((b .pre .1 .0 .narrow, omega (arith, chroma-long c, d .chroma-width .ensures)), (long c, same)))
+
+loop-holds : tie.Need-loop-holds Inv-loop μ-loop Inv-walk μ-walk
+unfolding topRow lowRow chromaRow
+loop-holds c =
+    let s = c .before in
+    let d = s .before .before .before .before .before .before .before .before .before .before .before .before in
+    let p = c .chroma-passed .ensures in
+    (p .most, record { clean = λ e h. sym (shown s e (subst (λ (n : ℕ). e < n) (sym (d .chroma-width .ensures)) (lt-of-lt-of-le h (p .most))) (sym (p .right e h))) })
+
+chroma-at-requires : tie.Need-chroma-at-requires Inv-loop μ-loop Inv-walk μ-walk
+unfolding topRow lowRow chromaRow
+chroma-at-requires c κs =
+    let s = c .before .before .before in
+    let d = s .before .before .before .before .before .before .before .before .before .before .before .before in
+    let b = d .before .before .before .before in
+    let a = b .args in
+    let visible : c .before .loop .element < chromaWidth (a .s .subsampling) (a .f .width) = subst (λ (m : ℕ). c .before .loop .element < m) (d .chroma-width .ensures) (c .loop-test .taken) in
+    (b .pre .0 .0, (b .pre .0 .1, ((b .pre .1 .0 .narrow, visible, omega (arith, c .loop-test .taken, chroma-long s)), long s)))
+
+-- and what this element's says
+judged : (c : tie.After-chroma-at Inv-loop μ-loop Inv-walk μ-walk) → let w = c .before .before .before .before .before .before .before .before .before .before .before .before .before .before in let a = w .before .before .before .before .before .before .args in
+    c .chroma-at .result ≡ chromaTest (a .s) (a .k) (a .f) (picture (a .s .channels) (a .f .«source_stride») (a .source .now)) (a .chroma .now) (w .walk .row) (c .before .before .loop .element)
+unfolding topRow lowRow chromaRow
+judged c = shown (c .before .before .before .before) (c .before .before .loop .element) (c .before .loop-test .taken) (c .chroma-at .ensures)
 
 add-element : tie.Need-add-element Inv-loop μ-loop Inv-walk μ-walk
 add-element c = search needs
@@ -205,8 +276,8 @@ walk-less c = search needs
 
 walk-again : tie.Need-walk-again Inv-loop μ-loop Inv-walk μ-walk
 walk-again c =
-    let w = c .before .before .before .before .before .before .before .before .before .before .before .before in
-    (omega (arith, in-rows (c .before .before .before .before .before .before .before .before .before .before .before)), clean-more (w .walk .inv .1) (c .before .loop .inv .1) (omega (arith, c .loop-test .left, w .before .before .chroma-width .ensures)))
+    let w = c .before .before .before .before .before .before .before .before .before .before .before .before .before in
+    (omega (arith, in-rows (c .before .before .before .before .before .before .before .before .before .before .before .before)), clean-more (w .walk .inv .1) (c .before .loop .inv .1) (omega (arith, c .loop-test .left, w .before .before .chroma-width .ensures)))
 
 returns : tie.Need-returns Inv-loop μ-loop Inv-walk μ-walk
 returns c = clean-all (c .before .walk .inv .1) (c .if1 .taken ∙ c .before .before .chroma-height .ensures)
@@ -214,7 +285,7 @@ returns c = clean-all (c .before .walk .inv .1) (c .if1 .taken ∙ c .before .be
 returns-2 : tie.Need-returns-2 Inv-loop μ-loop Inv-walk μ-walk
 returns-2 c =
     let i = c .before .before in
-    let t = i .before .before .before .before .before .before .before .before .before .before .before in
+    let t = i .before .before .before .before .before .before .before .before .before .before .before .before in
     first-wrong (in-rows t) (omega (arith, i .loop-test .taken, t .before .before .before .chroma-width .ensures)) (t .before .walk .inv .1) (i .before .loop .inv .1) (sym (judged (c .before)) ∙ not-true _ (c .if2 .taken))
 
 pub walk-chroma-spec : {M : Type 1} → statement M
@@ -238,7 +309,7 @@ walk-chroma-spec =
     sub-top
     part-top-start
     part-top-end
-    lower-requires
+    second-requires
     mul-low-from
     add-low-to
     mul-low
@@ -251,6 +322,7 @@ walk-chroma-spec =
     sub-samples
     part-samples-start
     part-samples-end
+    chroma-passed-requires
     loop-holds
     chroma-at-requires
     add-element

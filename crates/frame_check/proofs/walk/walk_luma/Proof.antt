@@ -2,23 +2,27 @@
 use borrow.Author.Needs.{needs}
 use mathlib.Core.Path.{_≡_, refl, sym, ap, _∙_}
 use borrow.Author.Tests.{not-true, not-false}
-use Prim.Native.Nat.{ℕ, _-_, _*_, _≤_}
+use mathlib.Core.Bool.{Bool}
+use Prim.Native.Nat.{ℕ, _-_, _*_, _≤_, _<_}
 use native.Mathlib.Omega.{arith}
-use lib.ListN.{length}
+use native.Mathlib.Nat.{lt-of-lt-of-le}
+use lib.ListN.{length, getD}
 use Rattle.rules.specs.Channels.{count, picture}
 use Rattle.rules.specs.Check.{Clean, lumaTest}
+use Rattle.frames.specs.Rows.{rowPixel}
 use Rattle.frames.proofs.Places.{row-small}
-use Rattle.frame_check.proofs.Walked.{CleanRow, row-none, row-more, clean-none, clean-more, clean-all, first-wrong}
-use Rattle.frame_check.proofs.Parts.{Part, part-of, part-long, luma-shown}
+use Rattle.frame_check.specs.Samples.{pixelRight}
+use Rattle.frame_check.proofs.Walked.{CleanRow, row-more, clean-none, clean-more, clean-all, first-wrong}
+use Rattle.frame_check.proofs.Parts.{Part, part-of, part, part-long, luma-shown}
 use Rattle.frame_check.proofs.walk.walk_luma.Statement.{statement}
 use Rattle.frame_check.proofs.walk.walk_luma.Tie as tie
 
 abbrev Inv-loop : tie.InvT-loop
-Inv-loop s k j f source luma width height across row «source_from» «source_to» line «luma_from» «luma_to» samples column₀ column =
+Inv-loop s k j f source luma width height across row «source_from» «source_to» line «luma_from» «luma_to» samples passed column₀ column =
     (column ≤ f .width) × CleanRow (lumaTest s k f (picture (s .channels) (f .«source_stride») source) luma) row column
 
 abbrev μ-loop : tie.MeasureT-loop
-μ-loop s k j f source luma width height across row «source_from» «source_to» line «luma_from» «luma_to» samples column₀ column = f .width - column
+μ-loop s k j f source luma width height across row «source_from» «source_to» line «luma_from» «luma_to» samples passed column₀ column = f .width - column
 
 abbrev Inv-walk : tie.InvT-walk
 Inv-walk s k j f source luma width height across row₀ row =
@@ -96,27 +100,46 @@ part-samples-start c = omega arith
 part-samples-end : tie.Need-part-samples-end Inv-loop μ-loop Inv-walk μ-walk
 part-samples-end c = samples-in (c .before .before .before) .end
 
+-- this turn's row parts hold the row
+long : (c : tie.After-samples Inv-loop μ-loop Inv-walk μ-walk) → let w = c .before .before .before .before .before in let a = w .before .before .before .before .args in
+    (a .f .width ≤ length (part (a .luma .now) (w .walk .row * a .f .«luma_stride») (a .f .width)))
+    × (a .f .width * count (a .s .channels) ≤ length (part (a .source .now) (w .walk .row * a .f .«source_stride») (a .f .width * w .before .get-channels-count .result)))
+long c =
+    let t = c .before .before .before .before in
+    let w = t .before in
+    let g = w .before in
+    let a = g .before .before .before .args in
+    let samples = part-long (a .luma .now) (w .walk .row * a .f .«luma_stride») (a .f .width) (samples-in t .end) in
+    let line = part-long (a .source .now) (w .walk .row * a .f .«source_stride») (a .f .width * g .get-channels-count .result) (line-in t .end) in
+    (omega (arith, samples), omega (arith, wide g, line))
+
+-- what a test of an element of the row parts says, of the buffers
+shown : (c : tie.After-samples Inv-loop μ-loop Inv-walk μ-walk) (e : ℕ) {r : Bool} → let w = c .before .before .before .before .before in let a = w .before .before .before .before .args in
+    e < a .f .width →
+    r ≡ pixelRight (a .s) (a .k) (rowPixel (a .s .channels) (part (a .source .now) (w .walk .row * a .f .«source_stride») (a .f .width * w .before .get-channels-count .result)) e) (getD (part (a .luma .now) (w .walk .row * a .f .«luma_stride») (a .f .width)) e 0) →
+    r ≡ lumaTest (a .s) (a .k) (a .f) (picture (a .s .channels) (a .f .«source_stride») (a .source .now)) (a .luma .now) (w .walk .row) e
+shown c e h q =
+    let w = c .before .before .before .before .before in
+    let a = w .before .before .before .before .args in
+    luma-shown (a .s) (a .k) (a .f) (a .source .now) (a .luma .now) (w .walk .row) e (a .f .width * w .before .get-channels-count .result) (wide (w .before)) h q
+
+luma-passed-requires : tie.Need-luma-passed-requires Inv-loop μ-loop Inv-walk μ-walk
+luma-passed-requires c κs = (c .before .before .before .before .before .before .before .before .before .pre .0, long c)
+
 loop-holds : tie.Need-loop-holds Inv-loop μ-loop Inv-walk μ-walk
-loop-holds c = (omega arith, row-none)
+loop-holds c = let p = c .luma-passed .ensures in (p .most, record { clean = λ e h. sym (shown (c .before) e (lt-of-lt-of-le h (p .most)) (sym (p .right e h))) })
 
 luma-at-requires : tie.Need-luma-at-requires Inv-loop μ-loop Inv-walk μ-walk
 luma-at-requires c κs =
-    let t = c .before .before .before .before .before .before in
-    let w = t .before in
-    let g = w .before in
-    let b = g .before .before .before in
-    let a = b .args in
-    let samples = part-long (a .luma .now) (w .walk .row * a .f .«luma_stride») (a .f .width) (samples-in t .end) in
-    let line = part-long (a .source .now) (w .walk .row * a .f .«source_stride») (a .f .width * g .get-channels-count .result) (line-in t .end) in
-    (b .pre .0 .0, (b .pre .0 .1, (c .loop-test .taken, omega (arith, samples), omega (arith, wide g, line))))
+    let s = c .before .before .before in
+    let b = s .before .before .before .before .before .before .before .before .before in
+    let l = long s in
+    (b .pre .0 .0, (b .pre .0 .1, (c .loop-test .taken, l .0, l .1)))
 
--- what the test of this element says, of the buffers
-judged : (c : tie.After-luma-at Inv-loop μ-loop Inv-walk μ-walk) → let w = c .before .before .before .before .before .before .before .before in let a = w .before .before .before .before .args in
+-- and what this element's says
+judged : (c : tie.After-luma-at Inv-loop μ-loop Inv-walk μ-walk) → let w = c .before .before .before .before .before .before .before .before .before in let a = w .before .before .before .before .args in
     c .luma-at .result ≡ lumaTest (a .s) (a .k) (a .f) (picture (a .s .channels) (a .f .«source_stride») (a .source .now)) (a .luma .now) (w .walk .row) (c .before .before .loop .column)
-judged c =
-    let w = c .before .before .before .before .before .before .before .before in
-    let a = w .before .before .before .before .args in
-    luma-shown (a .s) (a .k) (a .f) (a .source .now) (a .luma .now) (w .walk .row) (c .before .before .loop .column) (a .f .width * w .before .get-channels-count .result) (wide (w .before)) (c .before .loop-test .taken) (c .luma-at .ensures)
+judged c = shown (c .before .before .before .before) (c .before .before .loop .column) (c .before .loop-test .taken) (c .luma-at .ensures)
 
 add-column : tie.Need-add-column Inv-loop μ-loop Inv-walk μ-walk
 add-column c = search needs
@@ -134,7 +157,7 @@ walk-less : tie.Need-walk-less Inv-loop μ-loop Inv-walk μ-walk
 walk-less c = search needs
 
 walk-again : tie.Need-walk-again Inv-loop μ-loop Inv-walk μ-walk
-walk-again c = (omega arith, clean-more (c .before .before .before .before .before .before .before .walk .inv .1) (c .before .loop .inv .1) (c .loop-test .left))
+walk-again c = (omega arith, clean-more (c .before .before .before .before .before .before .before .before .walk .inv .1) (c .before .loop .inv .1) (c .loop-test .left))
 
 returns : tie.Need-returns Inv-loop μ-loop Inv-walk μ-walk
 returns c = clean-all (c .before .walk .inv .1) (c .if1 .taken)
@@ -142,7 +165,7 @@ returns c = clean-all (c .before .walk .inv .1) (c .if1 .taken)
 returns-2 : tie.Need-returns-2 Inv-loop μ-loop Inv-walk μ-walk
 returns-2 c =
     let i = c .before .before in
-    let t = i .before .before .before .before .before .before in
+    let t = i .before .before .before .before .before .before .before in
     first-wrong (omega (arith, t .before .walk .inv .0, t .if1 .left)) (i .loop-test .taken) (t .before .walk .inv .1) (i .before .loop .inv .1) (sym (judged (c .before)) ∙ not-true _ (c .if2 .taken))
 
 pub walk-luma-spec : {M : Type 1} → statement M
@@ -168,6 +191,7 @@ walk-luma-spec =
     sub-samples
     part-samples-start
     part-samples-end
+    luma-passed-requires
     loop-holds
     luma-at-requires
     add-column

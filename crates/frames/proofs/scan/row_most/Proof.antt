@@ -1,7 +1,8 @@
 -- `frames::scan::row_most` meets its contract. Assumes nothing.
 use borrow.Author.Needs.{needs}
-use native.Mathlib.Omega.{arith}
-use Rattle.frames.proofs.Lows.{flat-low}
+use mathlib.Core.Path.{ap}
+use Rattle.rules.specs.Channels.{count}
+use Rattle.frames.proofs.Lows.{flat-low, colour-low}
 use Rattle.frames.proofs.scan.row_most.Statement.{statement}
 use Rattle.frames.proofs.scan.row_most.Tie as tie
 
@@ -14,8 +15,14 @@ flat-most-requires c κs = search needs
 enum-told-2 : tie.Need-enum-told-2
 enum-told-2 c = search needs
 
+colour-most-requires : tie.Need-colour-most-requires
+colour-most-requires c κs = search needs
+
 enum-told-3 : tie.Need-enum-told-3
 enum-told-3 c = search needs
+
+colour-most-requires-2 : tie.Need-colour-most-requires-2
+colour-most-requires-2 c κs = search needs
 
 enum-told-4 : tie.Need-enum-told-4
 enum-told-4 c = search needs
@@ -28,13 +35,13 @@ returns c = let v = c .before .before .before .before .args in flat-low (v .chan
 
 returns-2 : tie.Need-returns-2
 returns-2 c =
-    let v = c .before .before .before .args in
-    flat-low (v .channels) 65535 (v .width) (v .part .now) (c .before .before .before .pre) (λ i b. omega (arith, c .before .before .shared-slice-known .given i))
+    let v = c .before .before .before .before .args in
+    colour-low (v .channels) _ (v .width) (v .part .now) (ap count (c .before .enum-told2 .given .1)) (c .before .before .before .before .pre) (c .colour-most .ensures)
 
 returns-3 : tie.Need-returns-3
 returns-3 c =
-    let v = c .before .before .before .args in
-    flat-low (v .channels) 65535 (v .width) (v .part .now) (c .before .before .before .pre) (λ i b. omega (arith, c .before .before .shared-slice-known .given i))
+    let v = c .before .before .before .before .args in
+    colour-low (v .channels) _ (v .width) (v .part .now) (ap count (c .before .enum-told3 .given .1)) (c .before .before .before .before .pre) (c .colour-most2 .ensures)
 
 returns-4 : tie.Need-returns-4
 returns-4 c = let v = c .before .before .before .before .args in flat-low (v .channels) _ (v .width) (v .part .now) (c .before .before .before .before .pre) (c .flat-most2 .ensures)
@@ -46,7 +53,9 @@ row-most-spec =
     enum-told
     flat-most-requires
     enum-told-2
+    colour-most-requires
     enum-told-3
+    colour-most-requires-2
     enum-told-4
     flat-most-requires-2
     returns

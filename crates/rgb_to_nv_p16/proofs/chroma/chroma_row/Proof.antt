@@ -8,7 +8,7 @@ use Rattle.rules.specs.Ranges.{most}
 use Rattle.rules.specs.Blocks.{chromaWidth}
 use Rattle.rule_laws.specs.Codes.{Low}
 use Rattle.tolerance_laws.proofs.Means.{averaged-low}
-use Rattle.plane_laws.proofs.Tables.{Filled, filled-none, filled-two, filled-all}
+use Rattle.plane_laws.proofs.Tables.{Filled, filled-two, filled-all}
 use Rattle.samples.proofs.Tiles.{left-below, wide-below, width-even, width-small, tiles-block}
 use Rattle.frames.specs.Rows.{rowPixel}
 use Rattle.rgb_to_nv_p16.specs.Words.{chromaElement}
@@ -17,11 +17,11 @@ use Rattle.rgb_to_nv_p16.proofs.chroma.chroma_row.Statement.{statement}
 use Rattle.rgb_to_nv_p16.proofs.chroma.chroma_row.Tie as tie
 
 abbrev Inv-loop : tie.InvT-loop
-Inv-loop s w width two chroma₀ upper lower channels subsampling k₀ chroma k =
+Inv-loop s w width two from chroma₀ upper lower channels subsampling k₀ chroma k =
     Filled chroma chroma₀ k (chromaElement s w width two (rowPixel (s .channels) upper) (rowPixel (s .channels) lower)) × (k % 2 ≡ 0)
 
 abbrev μ-loop : tie.MeasureT-loop
-μ-loop s w width two chroma₀ upper lower channels subsampling k₀ chroma k = length chroma₀ + 2 - k
+μ-loop s w width two from chroma₀ upper lower channels subsampling k₀ chroma k = length chroma₀ + 2 - k
 
 -- where the pair of this turn lies
 record Spot (c : tie.In-loop Inv-loop μ-loop) : Type 0 where
@@ -50,8 +50,8 @@ next-in c e = wide-below (c .before .before .before .before .before .before .bef
 
 low-mean : (c : tie.After-block-mean Inv-loop μ-loop) → Low (most (c .before .before .before .before .before .before .before .before .args .s .depth)) (c .block-mean .result)
 low-mean c =
-    let upper = c .before .before .before .before .before .before .before .before .pre .1 .1 .1 .0 .low in
-    let lower = c .before .before .before .before .before .before .before .before .pre .1 .1 .1 .1 .low in
+    let upper = c .before .before .before .before .before .before .before .before .pre .1 .1 .1 .0 .0 .low in
+    let lower = c .before .before .before .before .before .before .before .before .pre .1 .1 .1 .0 .1 .low in
     let x = c .before .before .left .result in
     let here = left-in (c .before .before) in
     let next = next-in (c .before) in
@@ -59,7 +59,9 @@ low-mean c =
     (averaged-low (tiles-block (c .before .wide .result) (c .before .before .before .before .before .before .before .before .args .two) _ _ x (upper .low x here) (λ e. upper .low (x + 1) (next e)) (λ g. lower .low x here) (λ g e. lower .low (x + 1) (next e))))
 
 loop-holds : tie.Need-loop-holds Inv-loop μ-loop
-loop-holds c = (filled-none _ _, refl)
+loop-holds c =
+    let b = c .before .before .before .pre .1 .1 .1 .1 in
+    (record { within = b .1 .within; long = refl; done = b .1 .done }, b .0)
 
 left-requires : tie.Need-left-requires Inv-loop μ-loop
 left-requires c κs = omega (arith, spot c .small)
@@ -68,7 +70,7 @@ wide-requires : tie.Need-wide-requires Inv-loop μ-loop
 wide-requires c κs = left-in c
 
 block-mean-requires : tie.Need-block-mean-requires Inv-loop μ-loop
-block-mean-requires c κs = ((left-in (c .before), next-in c), (c .before .before .before .before .before .before .before .pre .1 .1 .1 .0 .long, c .before .before .before .before .before .before .before .pre .1 .1 .1 .1 .long))
+block-mean-requires c κs = ((left-in (c .before), next-in c), (c .before .before .before .before .before .before .before .pre .1 .1 .1 .0 .0 .long, c .before .before .before .before .before .before .before .pre .1 .1 .1 .0 .1 .long))
 
 chroma-word-requires : tie.Need-chroma-word-requires Inv-loop μ-loop
 chroma-word-requires c κs = (c .before .before .before .before .before .before .before .before .pre .0, low-mean c)

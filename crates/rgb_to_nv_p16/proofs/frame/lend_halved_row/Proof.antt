@@ -109,7 +109,8 @@ part-process-halved-row-end-3 c = spot (c .before .before .before .before .befor
 process-halved-row-requires : tie.Need-process-halved-row-requires
 process-halved-row-requires c κs =
     let v = c .before .before .before .before .before .before .before .before .before .before .before .args in
-    let ready = c .before .before .before .before .before .before .before .before .before .before .before .pre .1 .0 in (
+    let ready = c .before .before .before .before .before .before .before .before .before .before .before .pre .1 .0 in
+    let e = visible-long (v .top * v .f .«source_stride») (v .f .width) (v .s .channels) (c .before .before .before .before .before .before .before .get-channels-count .ensures) in (
       c .before .before .before .before .before .before .before .before .before .before .before .pre .0,
       (
         ready .sized .narrow,
@@ -117,7 +118,7 @@ process-halved-row-requires c κs =
           c .before .before .process-halved-row-arg .given .2 ∙ add-sub-cancel-left (v .top * v .f .«luma_stride») (v .f .width),
           (
             c .before .process-halved-row-arg2 .given .2 ∙ add-sub-cancel-left (v .row * v .f .«chroma_stride») (c .before .before .before .before .before .before .chroma-width .result) ∙ c .before .before .before .before .before .before .chroma-width .ensures,
-            part (v .s) (v .f) (v .source .now) _ _ ready (v .top) _ (top-in (c .before .before .before .before .before .before .before .before .before .before .before .pre .1 .1)) (visible-long (v .top * v .f .«source_stride») (v .f .width) (v .s .channels) (c .before .before .before .before .before .before .before .get-channels-count .ensures)),
+            (c .process-halved-row-arg3 .given .2 ∙ e, part (v .s) (v .f) (v .source .now) _ _ ready (v .top) _ (top-in (c .before .before .before .before .before .before .before .before .before .before .before .pre .1 .1)) e),
           ),
         ),
       ),

@@ -1,5 +1,5 @@
 -- `rgb_to_nv_p16::luma::luma_row` meets its contract: the elements passed are filled. Assumes nothing.
-use mathlib.Core.Path.{ap, _∙_, subst⁻¹}
+use mathlib.Core.Path.{refl, ap, _∙_, subst⁻¹}
 use Prim.Native.Nat.{_-_, _<_}
 use native.Mathlib.Omega.{arith}
 use lib.ListN.{length}
@@ -7,17 +7,17 @@ use Rattle.rules.specs.Ranges.{most, biasY}
 use Rattle.rules.specs.Weights.{lumaRow}
 use Rattle.rules.specs.Convert.{wordOf}
 use Rattle.rule_laws.specs.Codes.{Low}
-use Rattle.plane_laws.proofs.Tables.{Filled, filled-none, filled-more, filled-all}
+use Rattle.plane_laws.proofs.Tables.{Filled, filled-more, filled-all}
 use Rattle.frames.specs.Rows.{rowPixel}
 use Rattle.rgb_to_nv_p16.specs.Words.{lumaElement}
 use Rattle.rgb_to_nv_p16.proofs.luma.luma_row.Statement.{statement}
 use Rattle.rgb_to_nv_p16.proofs.luma.luma_row.Tie as tie
 
 abbrev Inv-loop : tie.InvT-loop
-Inv-loop s w width luma₀ rgba channels x₀ luma x = Filled luma luma₀ x (lumaElement s w (rowPixel (s .channels) rgba))
+Inv-loop s w width from luma₀ rgba channels x₀ luma x = Filled luma luma₀ x (lumaElement s w (rowPixel (s .channels) rgba))
 
 abbrev μ-loop : tie.MeasureT-loop
-μ-loop s w width luma₀ rgba channels x₀ luma x = width - x
+μ-loop s w width from luma₀ rgba channels x₀ luma x = width - x
 
 -- the element of this turn lies in the row, and in the part
 within : (c : tie.In-loop Inv-loop μ-loop) → c .before .loop .x < c .before .before .before .before .args .width
@@ -27,14 +27,16 @@ spot : (c : tie.In-loop Inv-loop μ-loop) → c .before .loop .x < length (c .be
 spot c = omega (arith, c .before .before .before .before .pre .1 .0, within c)
 
 loop-holds : tie.Need-loop-holds Inv-loop μ-loop
-loop-holds c = filled-none _ _
+loop-holds c =
+    let b = c .before .before .pre .1 .1 .1 in
+    record { within = b .within; long = refl; done = b .done }
 
 row-pixel-requires : tie.Need-row-pixel-requires Inv-loop μ-loop
-row-pixel-requires c κs = (within c, c .before .before .before .before .pre .1 .1 .long)
+row-pixel-requires c κs = (within c, c .before .before .before .before .pre .1 .1 .0 .long)
 
 luma-word-requires : tie.Need-luma-word-requires Inv-loop μ-loop
 luma-word-requires c κs =
-    (c .before .before .before .before .before .pre .0, subst⁻¹ (Low (most (c .before .before .before .before .before .args .s .depth))) (c .row-pixel .ensures) (c .before .before .before .before .before .pre .1 .1 .low .low (c .before .before .loop .x) (within (c .before))))
+    (c .before .before .before .before .before .pre .0, subst⁻¹ (Low (most (c .before .before .before .before .before .args .s .depth))) (c .row-pixel .ensures) (c .before .before .before .before .before .pre .1 .1 .0 .low .low (c .before .before .loop .x) (within (c .before))))
 
 mul-luma : tie.Need-mul-luma Inv-loop μ-loop
 mul-luma c = omega (arith, spot (c .before .before))

@@ -1,0 +1,17 @@
+-- `joined_codes::lines::scaled` meets its contract. Assumes nothing.
+use borrow.Author.Needs.{needs}
+use Rattle.joined_codes.proofs.Bits.{scaled-fits, scaled-back}
+use Rattle.joined_codes.proofs.lines.scaled.Statement.{statement}
+use Rattle.joined_codes.proofs.lines.scaled.Tie as tie
+
+cast-result : tie.Need-cast-result
+cast-result c = search needs
+
+mul-result : tie.Need-mul-result
+mul-result c = scaled-fits (c .args .weight) (c .args .scale) (c .fits .weight) (c .pre .0) (c .pre .1)
+
+returns : tie.Need-returns
+returns c = scaled-back (c .args .weight) (c .args .scale) (c .fits .weight) (c .pre .0) (c .pre .1)
+
+pub scaled-spec : {M : Type 1} → statement M
+scaled-spec = tie.close (tie.spec cast-result mul-result returns)

@@ -1,0 +1,51 @@
+-- Rows of which the first elements are written. Definitions and statements only.
+use Prim.Native.Nat.{ℕ, _+_, _*_, _%_, _≤_, _<_}
+use mathlib.Core.Path.{_≡_}
+use mathlib.Core.Bool.{Bool, true, false}
+use mathlib.Core.List.{List}
+use lib.ListN.{length, getD}
+use Rattle.rules.specs.declared.YuvEndianness.{YuvEndianness}
+use Rattle.rules.specs.declared.YuvChromaSubsampling.{YuvChromaSubsampling}
+use Rattle.rules.specs.declared.YuvChromaSubsampling.the-variants.{Yuv420, Yuv422, Yuv444}
+use Rattle.rules.specs.Storage.{exchanged}
+
+-- the first n elements of a row are f's
+pub record Begun (n : ℕ) (f : ℕ → ℕ) (y : List ℕ) : Type 0 where
+  pub within : n ≤ length y
+  pub done : (k : ℕ) → k < n → getD y k 0 ≡ f k
+
+-- whether a chroma pair has two columns
+abbrev pub paired : YuvChromaSubsampling → Bool
+paired Yuv420 = true
+paired Yuv422 = true
+paired Yuv444 = false
+
+-- the chroma elements of the first columns, which are even in number where a pair has two
+abbrev pub elementsOver : YuvChromaSubsampling → ℕ → ℕ
+elementsOver Yuv420 columns = columns
+elementsOver Yuv422 columns = columns
+elementsOver Yuv444 columns = 2 * columns
+
+-- a luma row and a chroma row, f's and g's, of which the first columns are written
+pub record BegunRow (o : YuvChromaSubsampling) (f g : ℕ → ℕ) (columns : ℕ) (luma chroma : List ℕ) : Type 0 where
+  pub even : elementsOver o columns % 2 ≡ 0
+  pub luma-begun : Begun columns f luma
+  pub chroma-begun : Begun (elementsOver o columns) g chroma
+
+-- two luma rows, f's and h's, of which the lower starts `stride` elements after the upper, and a chroma row; what lies between the luma
+-- rows is as it was
+pub record BegunRows (o : YuvChromaSubsampling) (width stride : ℕ) (f h g : ℕ → ℕ) (columns : ℕ) (old luma chroma : List ℕ) : Type 0 where
+  pub even : elementsOver o columns % 2 ≡ 0
+  pub inside : columns ≤ width
+  pub long : length luma ≡ length old
+  pub upper-done : (k : ℕ) → k < columns → getD luma k 0 ≡ f k
+  pub lower-done : (k : ℕ) → k < columns → getD luma (stride + k) 0 ≡ h k
+  pub kept : (k : ℕ) → width ≤ k → k < stride → getD luma k 0 ≡ getD old k 0
+  pub chroma-begun : Begun (elementsOver o columns) g chroma
+
+-- the bytes of n elements of a row, from `from` on, are exchanged
+pub record Exchanged (e : YuvEndianness) (from n : ℕ) (old y : List ℕ) : Type 0 where
+  pub long : length y ≡ length old
+  pub inside : (k : ℕ) → from ≤ k → k < from + n → getD y k 0 ≡ exchanged e (getD old k 0)
+  pub before : (k : ℕ) → k < from → getD y k 0 ≡ getD old k 0
+  pub after : (k : ℕ) → from + n ≤ k → getD y k 0 ≡ getD old k 0
