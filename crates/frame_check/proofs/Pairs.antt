@@ -14,12 +14,12 @@ use Rattle.rules.specs.declared.YuvChromaSubsampling.{YuvChromaSubsampling}
 use Rattle.rules.specs.declared.YuvChromaSubsampling.the-variants.{Yuv420, Yuv422, Yuv444}
 use Rattle.rules.specs.Channels.{uAt, vAt, isU}
 use Rattle.rules.specs.Blocks.{chromaWidth}
-use Rattle.samples.specs.Tiles.{leftOf, wideAt}
+use Rattle.samples.specs.Tiles.{paired, leftOf, wideAt}
 use Rattle.samples.proofs.Tiles.{wide-below}
 use Rattle.frames.specs.Rows.{rowPixel}
 use Rattle.frame_check.specs.declared.sample.Tile.{Tile}
 use Rattle.frame_check.specs.Samples.{blockRight, Fitting, tiled, tileOf, elementRight}
-use Rattle.frame_check.specs.Quads.{widens, wholePairs, PairRight}
+use Rattle.frame_check.specs.Quads.{wholePairs, PairRight}
 use Rattle.frame_check.proofs.Rows.{element-is}
 
 -- ---- where they lie
@@ -39,14 +39,14 @@ whole-left Yuv420 width pair h = omega arith
 whole-left Yuv422 width pair h = omega arith
 whole-left Yuv444 width pair h = h
 
-whole-wide : (s : YuvChromaSubsampling) (width pair : ℕ) → pair < wholePairs s width → widens s ≡ wideAt s width (leftOf s pair)
+whole-wide : (s : YuvChromaSubsampling) (width pair : ℕ) → pair < wholePairs s width → paired s ≡ wideAt s width (leftOf s pair)
 whole-wide Yuv420 width pair h = sym (lt-ltb (2 * pair + 1) width (omega arith))
 whole-wide Yuv422 width pair h = sym (lt-ltb (2 * pair + 1) width (omega arith))
 whole-wide Yuv444 width pair h = refl
 
 module _ (s : YuvChromaSubsampling) (width : ℕ) (two : Bool) (pair : ℕ) (h : pair < wholePairs s width) where
   -- the block of a pair, as it is worked out
-  pub whole-tile : {x : ℕ} {w : Bool} → x ≡ leftOf s pair → w ≡ widens s → _≡_ {A = Tile} (record { left = x; wide = w; two = two }) (tileOf s width two pair)
+  pub whole-tile : {x : ℕ} {w : Bool} → x ≡ leftOf s pair → w ≡ paired s → _≡_ {A = Tile} (record { left = x; wide = w; two = two }) (tileOf s width two pair)
   whole-tile e f = λ i. record { left = e i; wide = (f ∙ whole-wide s width pair h) i; two = two }
 
   pub whole-fits : Fitting width (tileOf s width two pair)

@@ -30,12 +30,6 @@ quadLimit l true true = l .four
 abbrev pub ownQuad : Judge → Bool → Bool → Bool → Limit
 ownQuad j u wide two = cond u (quadLimit (j .cb) wide two) (quadLimit (j .cr) wide two)
 
--- whether the pairs of a row have two columns, but for an odd last one
-abbrev pub widens : YuvChromaSubsampling → Bool
-widens Yuv420 = true
-widens Yuv422 = true
-widens Yuv444 = false
-
 -- how many pairs there are, but for an odd last one
 abbrev pub wholePairs : YuvChromaSubsampling → ℕ → ℕ
 wholePairs Yuv420 width = width / 2

@@ -9,7 +9,7 @@ ghost use Rattle.rule_laws.specs.Usable.{Reach};
 ghost use Rattle.frames.specs.Rows.{rowPixel};
 ghost use Rattle.frame_check.specs.Judging.{Judging};
 ghost use Rattle.frame_check.specs.Samples.{pixelRight, elementRight};
-ghost use Rattle.frame_check.specs.Quads.{widens, wholePairs};
+ghost use Rattle.frame_check.specs.Quads.{wholePairs};
 ghost use Rattle.frame_check.specs.Walks.{Passed};
 use crate::formed;
 use crate::judge::Judge;
@@ -50,17 +50,6 @@ pub fn luma_passed(
     e
 }
 
-// Whether the pairs of a row have two columns, but for an odd last one.
-fn widens(subsampling: YuvChromaSubsampling) -> bool
-    ensures { λ r. ⌜ r ≡ widens subsampling ⌝ }
-{
-    match subsampling {
-        YuvChromaSubsampling::Yuv420 => true,
-        YuvChromaSubsampling::Yuv422 => true,
-        YuvChromaSubsampling::Yuv444 => false,
-    }
-}
-
 // How many pairs there are, but for an odd last one.
 fn whole_pairs(subsampling: YuvChromaSubsampling, width: usize) -> usize
     ensures { λ r. ⌜ r ≡ wholePairs subsampling width ⌝ }
@@ -93,7 +82,7 @@ pub fn chroma_passed(
         return 0;
     }
     let subsampling = s.subsampling;
-    let wide = widens(subsampling);
+    let wide = blocks::paired(subsampling);
     let pairs = whole_pairs(subsampling, width);
     let cb_limits = j.cb;
     let cr_limits = j.cr;

@@ -14,7 +14,8 @@ use Rattle.rules.specs.Channels.{count}
 use Rattle.rules.specs.Blocks.{chromaWidth}
 use Rattle.rules.specs.Planes.{written}
 use Rattle.plane_laws.proofs.Tables.{Filled, filled-none, filled-two}
-use Rattle.rgb_to_nv_p16.specs.Begun.{Begun, paired, elementsOver, BegunRow, BegunRows}
+use Rattle.samples.specs.Tiles.{paired}
+use Rattle.rgb_to_nv_p16.specs.Begun.{Begun, elementsOver, BegunRow, BegunRows}
 use Rattle.rgb_to_nv_p16.proofs.TwoRows.{Both}
 
 -- ---- rows that are begun

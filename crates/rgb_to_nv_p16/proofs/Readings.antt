@@ -26,11 +26,10 @@ use Rattle.rule_laws.specs.Codes.{Low}
 use Rattle.tolerance_laws.specs.Chroma.{chromaRow}
 use Rattle.tolerance_laws.proofs.Means.{averaged-one}
 use Rattle.plane_laws.proofs.Tables.{step-le}
-use Rattle.samples.specs.Tiles.{leftOf, wideAt}
+use Rattle.samples.specs.Tiles.{paired, leftOf, wideAt}
 use Rattle.joined_codes.specs.Joined.{asRead}
 use Rattle.frames.specs.Rows.{rowPixel, Part}
 use Rattle.rgb_to_nv_p16.specs.Words.{lumaElement, packedLuma, pairMean, chromaElement, packedChroma}
-use Rattle.rgb_to_nv_p16.specs.Begun.{paired}
 use Rattle.rgb_to_nv_p16.proofs.Tiles.{found}
 
 -- ---- pixels read in the order of their samples

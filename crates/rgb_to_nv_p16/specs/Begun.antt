@@ -1,7 +1,6 @@
 -- Rows of which the first elements are written. Definitions and statements only.
 use Prim.Native.Nat.{ℕ, _+_, _*_, _%_, _≤_, _<_}
 use mathlib.Core.Path.{_≡_}
-use mathlib.Core.Bool.{Bool, true, false}
 use mathlib.Core.List.{List}
 use lib.ListN.{length, getD}
 use Rattle.rules.specs.declared.YuvEndianness.{YuvEndianness}
@@ -13,12 +12,6 @@ use Rattle.rules.specs.Storage.{exchanged}
 pub record Begun (n : ℕ) (f : ℕ → ℕ) (y : List ℕ) : Type 0 where
   pub within : n ≤ length y
   pub done : (k : ℕ) → k < n → getD y k 0 ≡ f k
-
--- whether a chroma pair has two columns
-abbrev pub paired : YuvChromaSubsampling → Bool
-paired Yuv420 = true
-paired Yuv422 = true
-paired Yuv444 = false
 
 -- the chroma elements of the first columns, which are even in number where a pair has two
 abbrev pub elementsOver : YuvChromaSubsampling → ℕ → ℕ

@@ -9,9 +9,10 @@ ghost use Rattle.rules.specs.declared.YuvChromaSubsampling.the-variants.{Yuv444
 ghost use Rattle.rules.specs.Channels.{count};
 ghost use Rattle.rules.specs.Blocks.{chromaWidth};
 ghost use Rattle.rule_laws.specs.Usable.{Usable};
+ghost use Rattle.samples.specs.Tiles.{paired};
 ghost use Rattle.frames.specs.Rows.{rowPixel, Part};
 ghost use Rattle.rgb_to_nv_p16.specs.Words.{lumaElement, packedLuma, chromaElement, packedChroma};
-ghost use Rattle.rgb_to_nv_p16.specs.Begun.{paired, elementsOver, BegunRow, BegunRows};
+ghost use Rattle.rgb_to_nv_p16.specs.Begun.{elementsOver, BegunRow, BegunRows};
 use crate::exchange;
 use frames::channels;
 use joined_codes::lines;

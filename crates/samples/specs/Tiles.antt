@@ -7,6 +7,12 @@ use Rattle.rules.specs.declared.Pixel.{Pixel}
 use Rattle.rules.specs.declared.YuvChromaSubsampling.{YuvChromaSubsampling}
 use Rattle.rules.specs.declared.YuvChromaSubsampling.the-variants.{Yuv420, Yuv422, Yuv444}
 
+-- whether a chroma pair has two columns, but for an odd last one
+abbrev pub paired : YuvChromaSubsampling → Bool
+paired Yuv420 = true
+paired Yuv422 = true
+paired Yuv444 = false
+
 abbrev pub leftOf : YuvChromaSubsampling → ℕ → ℕ
 leftOf Yuv420 pair = 2 * pair
 leftOf Yuv422 pair = 2 * pair

@@ -2,7 +2,7 @@
 ghost use mathlib.Core.Path.{_≡_};
 ghost use Prim.Native.Nat.{_≤_, _<_};
 ghost use Rattle.rules.specs.Blocks.{chromaWidth, chromaHeight};
-ghost use Rattle.samples.specs.Tiles.{leftOf, wideAt, topOf, twoAt};
+ghost use Rattle.samples.specs.Tiles.{paired, leftOf, wideAt, topOf, twoAt};
 use rules::YuvChromaSubsampling;
 
 // Chroma elements in a row.
@@ -26,6 +26,17 @@ pub fn chroma_height(subsampling: YuvChromaSubsampling, height: usize) -> usize
         YuvChromaSubsampling::Yuv420 => (height + 1) / 2,
         YuvChromaSubsampling::Yuv422 => height,
         YuvChromaSubsampling::Yuv444 => height,
+    }
+}
+
+// Whether a pair has two columns, but for an odd last one.
+pub fn paired(subsampling: YuvChromaSubsampling) -> bool
+    ensures { λ r. ⌜ r ≡ paired subsampling ⌝ }
+{
+    match subsampling {
+        YuvChromaSubsampling::Yuv420 => true,
+        YuvChromaSubsampling::Yuv422 => true,
+        YuvChromaSubsampling::Yuv444 => false,
     }
 }
 

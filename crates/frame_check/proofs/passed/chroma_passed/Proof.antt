@@ -30,8 +30,8 @@ all-formed-requires c κs = search needs
 returns : tie.Need-returns Inv-loop μ-loop
 returns c = passed-none
 
-widens-requires : tie.Need-widens-requires Inv-loop μ-loop
-widens-requires c κs = search needs
+paired-requires : tie.Need-paired-requires Inv-loop μ-loop
+paired-requires c κs = search needs
 
 whole-pairs-requires : tie.Need-whole-pairs-requires Inv-loop μ-loop
 whole-pairs-requires c κs = search needs
@@ -57,11 +57,11 @@ small c =
 
 -- its block, as it is worked out
 tile-is : (c : tie.After-left Inv-loop μ-loop) → let w = c .before .before .before .before .before .before .before .before in let a = w .before .before .before .before .before .before .args in
-    _≡_ {A = Tile} (record { left = c .left .result; wide = w .widens .result; two = a .two }) (tileOf (a .s .subsampling) (a .width) (a .two) (c .before .before .loop .pair))
+    _≡_ {A = Tile} (record { left = c .left .result; wide = w .paired .result; two = a .two }) (tileOf (a .s .subsampling) (a .width) (a .two) (c .before .before .loop .pair))
 tile-is c =
     let w = c .before .before .before .before .before .before .before .before in
     let a = w .before .before .before .before .before .before .args in
-    whole-tile (a .s .subsampling) (a .width) (a .two) (c .before .before .loop .pair) (in-pairs (c .before)) (c .left .ensures) (w .widens .ensures)
+    whole-tile (a .s .subsampling) (a .width) (a .two) (c .before .before .loop .pair) (in-pairs (c .before)) (c .left .ensures) (w .paired .ensures)
 
 left-requires : tie.Need-left-requires Inv-loop μ-loop
 left-requires c κs = small (c .before)
@@ -116,7 +116,7 @@ chroma-passed-spec =
     μ-loop
     all-formed-requires
     returns
-    widens-requires
+    paired-requires
     whole-pairs-requires
     quad-limit-requires
     quad-limit-requires-2

@@ -1,7 +1,7 @@
 -- `rgb_to_nv_p16::begin::begin_packed_double_row` meets its contract. Assumes nothing.
 use borrow.Author.Needs.{needs}
 use mathlib.Core.Path.{ap}
-use Rattle.rgb_to_nv_p16.specs.Begun.{paired}
+use Rattle.samples.specs.Tiles.{paired}
 use Rattle.rgb_to_nv_p16.proofs.Begins.{none-begun}
 use Rattle.rgb_to_nv_p16.proofs.begin.begin_packed_double_row.Statement.{statement}
 use Rattle.rgb_to_nv_p16.proofs.begin.begin_packed_double_row.Tie as tie
