@@ -1,4 +1,2 @@
-pub mod Words
-pub mod Begun
 pub mod Turns
 pub mod Outcomes

@@ -7,11 +7,7 @@ ghost use Rattle.rules.specs.Frames.{frameLines};
 ghost use Rattle.rules.specs.Convert.{answer, kept, lumaWritten, chromaWritten, convert, lumaAfter, chromaAfter};
 ghost use Rattle.rule_laws.specs.Usable.{Usable};
 
-mod begin;
-mod chroma;
-mod exchange;
 mod frame;
-mod luma;
 mod rows;
 
 use frames::refusals;

@@ -11,7 +11,7 @@ use Rattle.plane_laws.proofs.Planes.{plane-none, length-plane}
 use Rattle.samples.proofs.Tiles.{height-small}
 use Rattle.frames.specs.Tests.{Ready}
 use Rattle.rgb_to_nv_p16.specs.Turns.{rowsOver}
-use Rattle.rgb_to_nv_p16.proofs.Tiles.{over-none, over-all}
+use Rattle.rgb_to_nv_p16.proofs.Over.{over-none, over-all}
 use Rattle.rgb_to_nv_p16.proofs.frame.convert_rows.Statement.{statement}
 use Rattle.rgb_to_nv_p16.proofs.frame.convert_rows.Tie as tie
 

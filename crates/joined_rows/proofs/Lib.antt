@@ -1,0 +1,4 @@
+pub mod Readings
+pub mod TwoRows
+pub mod Begins
+pub mod Exchanges

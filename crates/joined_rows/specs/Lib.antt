@@ -1,0 +1,3 @@
+pub mod Packed
+pub mod Begun
+pub mod Exchanged

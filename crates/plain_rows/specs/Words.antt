@@ -1,0 +1,26 @@
+-- The words of a luma row and of a chroma row, from rows of pixels. Definitions only.
+use Prim.Native.Nat.{ℕ, _/_}
+use mathlib.Core.Bool.{Bool}
+use Rattle.rules.specs.declared.Settings.{Settings}
+use Rattle.rules.specs.declared.Weights.{Weights}
+use Rattle.rules.specs.declared.Pixel.{Pixel}
+use Rattle.rules.specs.declared.YuvChromaSubsampling.{YuvChromaSubsampling}
+use Rattle.rules.specs.Ranges.{biasY, biasUV}
+use Rattle.rules.specs.Weights.{lumaRow}
+use Rattle.rules.specs.Channels.{isU}
+use Rattle.rules.specs.Blocks.{averaged}
+use Rattle.rules.specs.Convert.{wordOf}
+use Rattle.tolerance_laws.specs.Chroma.{chromaRow}
+use Rattle.samples.specs.Tiles.{leftOf, wideAt, tiles}
+
+-- element x of a luma row
+abbrev pub lumaElement : Settings → Weights → (ℕ → Pixel) → ℕ → ℕ
+lumaElement s w p x = wordOf s (biasY (s .range) (s .depth)) (lumaRow w) (p x)
+
+-- the mean of the block of a pair, from its rows of pixels: the second counts only where there are two
+abbrev pub pairMean : YuvChromaSubsampling → ℕ → Bool → (ℕ → Pixel) → (ℕ → Pixel) → ℕ → Pixel
+pairMean sub width two t u pair = averaged (tiles (wideAt sub width (leftOf sub pair)) two t u (leftOf sub pair))
+
+-- element k of a chroma row
+unfoldable pub chromaElement : Settings → Weights → ℕ → Bool → (ℕ → Pixel) → (ℕ → Pixel) → ℕ → ℕ
+chromaElement s w width two t u k = wordOf s (biasUV (s .depth)) (chromaRow (isU (s .order) k) w) (pairMean (s .subsampling) width two t u (k / 2))
