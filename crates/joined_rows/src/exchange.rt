@@ -1,5 +1,4 @@
 // The two bytes of elements that are written, exchanged for big endian.
-ghost use mathlib.Core.Path.{_≡_};
 ghost use Prim.Native.Nat.{_+_, _≤_};
 ghost use lib.ListN.{length};
 ghost use Rattle.rules.specs.declared.YuvEndianness.the-variants.{BigEndian};
