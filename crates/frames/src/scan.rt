@@ -95,16 +95,20 @@ fn colour_most(part: &[u16]) -> u16
     most
 }
 
-// A bound of the colour samples of a row.
-fn row_most(channels: YuvSourceChannels, width: usize, part: &[u16]) -> u16
+// A bound of the colour samples of a row: of all its samples where none exceeds m, since alpha is seldom larger than the colours may be.
+fn row_most(m: u16, channels: YuvSourceChannels, width: usize, part: &[u16]) -> u16
     requires { ⌜ width * count channels ≤ length (now part) ⌝ }
     ensures { λ r. ⌜ LowRow r (rowPixel channels (now (part .entry))) width ⌝ }
 {
+    let all = flat_most(part);
+    if all <= m {
+        return all;
+    }
     match channels {
-        YuvSourceChannels::Rgb => flat_most(part),
+        YuvSourceChannels::Rgb => all,
         YuvSourceChannels::Rgba => colour_most(part),
         YuvSourceChannels::Bgra => colour_most(part),
-        YuvSourceChannels::Bgr => flat_most(part),
+        YuvSourceChannels::Bgr => all,
     }
 }
 
@@ -113,7 +117,7 @@ fn row_high(m: u16, channels: YuvSourceChannels, width: usize, row: usize, part:
     requires { ⌜ width * count channels ≤ length (now part) ⌝ }
     ensures { λ r. ⌜ r ≡ firstBelow width (λ x. highAt m row x (rowPixel channels (now (part .entry)) x)) ⌝ }
 {
-    if row_most(channels, width, part) <= m {
+    if row_most(m, channels, width, part) <= m {
         return Search::Nothing;
     }
     let mut x = 0;

@@ -1,12 +1,11 @@
 -- What is read back of an `i32`, and sums and products of two of them at 64 bits. Assumes nothing.
 use mathlib.Core.Path.{_≡_, ap, _∙_}
-use Prim.Native.Nat.{ℕ, _^_, _≤_, _<_}
-use native.Mathlib.Nat.{mul-le-mul}
+use Prim.Native.Nat.{ℕ, _*_, _^_, _≤_, _<_}
 use native.Mathlib.Omega.{arith}
 use lib.IntN.{ℤ, pos, negsuc, natAbs, _+ℤ_, _*ℤ_}
 use lib.Signed.{mag}
-use mir.Syntax.{w16, w32, w64}
-use mir.Val.{Fits, SFits, toZ, ofZ}
+use mir.Syntax.{w32, w64}
+use mir.Val.{SFits, toZ, ofZ}
 use mir.ValLaws.{toZ-ofZ, toZ-pos}
 use Rattle.integer_laws.proofs.Machine.{back32, back, size-le, plus, plus-small, plus-fits}
 use Rattle.integer_laws.proofs.Differences.{abs-mul, sfits-abs}
@@ -33,12 +32,12 @@ fits32 {z = pos n} h = record { sfits = h }
 fits32 {z = negsuc n} h = record { sfits = omega arith }
 
 -- ---- a weight times a scale
-module _ (a : ℤ) (x : ℕ) (ha : SFits w32 a) (hx : x ≤ 4096) (small : natAbs a ≤ 8192) where
+module _ (a : ℤ) (x : ℕ) (ha : SFits w32 a) (hx : x ≤ 262144) (small : natAbs a * x ≤ 524288) where
   scaled-is : toZ w32 (ofZ w32 a) *ℤ toZ w32 x ≡ a *ℤ pos x
   scaled-is = λ i. back32 a ha i *ℤ toZ-pos w32 x (omega arith) i
 
   product-fits : SFits w32 (a *ℤ pos x)
-  product-fits = fits32 (omega (arith, abs-mul a x, mul-le-mul small hx))
+  product-fits = fits32 (omega (arith, abs-mul a x))
 
   pub scaled-fits : SFits w32 (toZ w32 (ofZ w32 a) *ℤ toZ w32 x)
   scaled-fits = rw scaled-is product-fits
@@ -75,13 +74,13 @@ module _ (a b : ℤ) (ha : SFits w32 a) (hb : SFits w32 b) (small : natAbs b ≤
   pub sum-back : toZ w64 (ofZ w64 (wide a +ℤ toZ w64 (ofZ w64 (wide b *ℤ pos 4294967296)))) ≡ join a b
   sum-back = ap (λ (z : ℤ). toZ w64 (ofZ w64 z)) sum-is ∙ toZ-ofZ w64 (join a b) join-fits
 
--- ---- a joined weight times a sample
-module _ (a : ℤ) (x : ℕ) (ha : SFits w64 a) (hx : Fits w16 x) (small : natAbs a ≤ 35184372097024) where
+-- ---- a weight times a number
+module _ (a : ℤ) (x : ℕ) (ha : SFits w64 a) (hx : x ≤ 281474976710655) (small : natAbs a * x ≤ 2305807825378467840) where
   weighed-is : toZ w64 (ofZ w64 a) *ℤ toZ w64 x ≡ a *ℤ pos x
-  weighed-is = λ i. toZ-ofZ w64 a ha i *ℤ toZ-pos w64 x (omega (arith, hx .fits)) i
+  weighed-is = λ i. toZ-ofZ w64 a ha i *ℤ toZ-pos w64 x (omega arith) i
 
   pub weighed-small : natAbs (a *ℤ pos x) ≤ 2305807825378467840
-  weighed-small = let h : x ≤ 65535 = omega (arith, hx .fits) in omega (arith, abs-mul a x, mul-le-mul small h)
+  weighed-small = omega (arith, abs-mul a x)
 
   weighed-fit : SFits w64 (a *ℤ pos x)
   weighed-fit = sfits-abs (omega (arith, weighed-small))

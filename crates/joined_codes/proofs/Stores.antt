@@ -1,31 +1,50 @@
 -- The words that a line's sum gives. Assumes nothing.
-use mathlib.Core.Path.{_≡_, ap, _∙_, subst⁻¹}
+use mathlib.Core.Path.{_≡_, sym, ap, _∙_, subst⁻¹}
 use mathlib.Core.Bool.{Bool, true, false}
-use Prim.Native.Nat.{ℕ, _+_, _*_, _/_, _%_, _^_, _≤_, _<_}
+use Prim.Native.Nat.{ℕ, _+_, _-_, _*_, _/_, _%_, _^_, _≤_, _<_}
+use native.Mathlib.Nat.{div-add-mod'}
 use native.Mathlib.Omega.{arith}
 use lib.Dec.{T}
+use lib.Pow.{pow-add, pow-mono, pow-pos}
+use lib.Bits.{bitAnd, and-block, and-mask}
 use lib.IntN.{ℤ, pos, natAbs}
 use lib.Signed.{nonNeg}
 use Rattle.rules.specs.declared.Settings.{Settings}
 use Rattle.rules.specs.declared.Weights.{Weights}
-use Rattle.rules.specs.declared.Triple.{Triple}
 use Rattle.rules.specs.declared.Pixel.{Pixel}
+use Rattle.rules.specs.declared.YuvRange.{YuvRange}
+use Rattle.rules.specs.declared.YuvRange.the-variants.{Limited, Full}
 use Rattle.rules.specs.declared.YuvBytesPacking.{YuvBytesPacking}
+use Rattle.rules.specs.declared.YuvBytesPacking.the-variants.{MostSignificantBytes, LeastSignificantBytes}
 use Rattle.rules.specs.Ranges.{most, biasY, biasUV}
 use Rattle.rules.specs.Weights.{lumaRow}
 use Rattle.rules.specs.Channels.{isU}
 use Rattle.rules.specs.Sample.{code}
 use Rattle.rules.specs.Storage.{packed}
-use Rattle.rule_laws.specs.Codes.{Low, Coded}
+use Rattle.rule_laws.specs.Codes.{Low}
 use Rattle.rule_laws.specs.Usable.{Reach, Usable}
-use Rattle.rule_laws.proofs.Depths.{sane}
 use Rattle.tolerance_laws.specs.Chroma.{chromaRow}
-use Rattle.samples.proofs.Codes.{most-small, code-below}
+use Rattle.samples.proofs.Codes.{most-small, chroma-coded, code-below}
 use Rattle.samples.proofs.Words.{packed-fits}
 use Rattle.joined_codes.specs.declared.lines.Line.{Line}
 use Rattle.joined_codes.specs.declared.lines.Lines.{Lines}
-use Rattle.joined_codes.specs.Joined.{asRead, lineSum, lineFor, timesOf, linesOf, Within, Steady}
-use Rattle.joined_codes.proofs.Sums.{Halves, halves, steady, read-low, packed-times}
+use Rattle.joined_codes.specs.Joined.{beside, timesOf, asRead, lineOf, lineTwice, lineSum, startOf, rowOf, belowOf, cut, linesOf, Within, Steady}
+use Rattle.joined_codes.proofs.Sums.{Halves, halves, twice, steady, steady-twice, read-low, packed-times}
+
+-- ---- the biases
+
+pub bias-y : (d : ℕ) (g : YuvRange) → 10 ≤ d → biasY g d + 1 ≤ 2 ^ d
+bias-y d Limited h =
+    let e : 8 + (d - 8) ≡ d = omega arith in
+    let q : 2 ^ d ≡ 256 * 2 ^ (d - 8) = sym (ap (λ (n : ℕ). 2 ^ n) e) ∙ pow-add 2 8 (d - 8) in
+    omega (arith, q, pow-pos (d - 8))
+bias-y d Full h = pow-pos d
+
+pub bias-uv : (d : ℕ) → 10 ≤ d → biasUV d + 1 ≤ 2 ^ d
+bias-uv d h =
+    let e : 1 + (d - 1) ≡ d = omega arith in
+    let q : 2 ^ d ≡ 2 * 2 ^ (d - 1) = sym (ap (λ (n : ℕ). 2 ^ n) e) ∙ pow-add 2 1 (d - 1) in
+    omega (arith, q, pow-pos (d - 1))
 
 -- ---- the sizes of the weights in use
 module _ {s : Settings} {w : Weights} (u : Usable s w) where
@@ -36,69 +55,135 @@ module _ {s : Settings} {w : Weights} (u : Usable s w) where
   chroma-within true = record { red = u .weights .cbr .size; green = u .weights .cbg .size; blue = u .weights .cbb .size }
   chroma-within false = record { red = u .weights .crr .size; green = u .weights .crg .size; blue = u .weights .crb .size }
 
--- ---- a code as a word
-pub word-fits : (k : YuvBytesPacking) (d c : ℕ) → d ≤ 16 → c < 2 ^ d → (c ≤ 65535) × (c * timesOf k d ≤ 65535)
-word-fits k d c deep h =
-    let m : c ≤ most d = omega arith in
-    (omega (arith, m, most-small d deep), omega (arith, packed-times k d c, packed-fits k d deep m))
+-- ---- a sum without the bits below its words
 
--- ---- a sum by a line that was worked out
-module _ (s : Settings) (r : Reach s) (bias : ℕ) (a b : Triple) (p : Pixel) (low : Low (most (s .depth)) p) (ha : Coded (s .precision) (most (s .depth)) bias a) (hb : Coded (s .precision) (most (s .depth)) bias b)
-    (l : Line) (e : l ≡ lineFor s bias a b) where
-  abbrev seen : Pixel
-  seen = asRead (s .channels) p
+abbrev exponent : YuvBytesPacking → ℕ → ℕ
+exponent MostSignificantBytes d = 13 + (16 - d)
+exponent LeastSignificantBytes d = 13
 
-  abbrev parts : Halves s bias a b p
-  parts = halves s r bias p a b (ha seen (read-low (s .channels) low)) (hb seen (read-low (s .channels) low))
+power-is : (k : YuvBytesPacking) (d : ℕ) → 8192 * timesOf k d ≡ 2 ^ exponent k d
+power-is MostSignificantBytes d = sym (pow-add 2 13 (16 - d))
+power-is LeastSignificantBytes d = omega arith
 
-  value : lineSum l p ≡ pos (parts .low + parts .high * 4294967296)
-  value = ap (λ (x : Line). lineSum x p) e ∙ parts .sum
+power-small : (k : YuvBytesPacking) (d : ℕ) → 2 ^ exponent k d ≤ 4294967296
+power-small MostSignificantBytes d = pow-mono {i = 13 + (16 - d)} {j = 32} (omega arith)
+power-small LeastSignificantBytes d = omega arith
 
-  pub not-negative : T (nonNeg (lineSum l p))
-  not-negative = subst⁻¹ (λ (z : ℤ). T (nonNeg z)) value tt
+module _ (k low high v : ℕ) (made : v ≡ low + high * 4294967296) (room : low < 4294967296) (small : 2 ^ k ≤ 4294967296) where
+  abbrev whole : ℕ
+  whole = 2 ^ k
 
-  module _ (v : ℕ) (h : v ≡ natAbs (lineSum l p)) where
-    made : v ≡ parts .low + parts .high * 4294967296
-    made = h ∙ ap natAbs value
+  removed : bitAnd v ((whole - 1) * 4294967297) ≡ high % whole * 4294967296 + low % whole
+  removed =
+      let some = pow-pos k in
+      let e : v ≡ high * 4294967296 + low = omega (arith, made) in
+      let f : (whole - 1) * 4294967297 ≡ (whole - 1) * 4294967296 + (whole - 1) = omega arith in
+      (λ i. bitAnd (e i) (f i)) ∙ and-block 32 high (whole - 1) low (whole - 1) room (omega (arith, small, some)) ∙ (λ i. and-mask high k i * 4294967296 + and-mask low k i)
 
-    pub low-code : v % 4294967296 / 8192 ≡ code (s .precision) bias a seen
-    low-code = let q : v % 4294967296 ≡ parts .low = omega (arith, made, parts .room) in ap (λ (n : ℕ). n / 8192) q ∙ parts .first
+  kept : cut v ((whole - 1) * 4294967297) ≡ low / whole * whole + high / whole * whole * 4294967296
+  kept = omega (arith, made, removed, div-add-mod' low whole, div-add-mod' high whole)
 
-    pub high-code : v / 4294967296 / 8192 ≡ code (s .precision) bias b seen
-    high-code = let q : v / 4294967296 ≡ parts .high = omega (arith, made, parts .room) in ap (λ (n : ℕ). n / 8192) q ∙ parts .second
+  module _ (t : ℕ) (e : 8192 * t ≡ whole) where
+    times : (n : ℕ) → n * whole ≡ n * t * 8192
+    times n = let q : n * (8192 * t) ≡ n * whole = ap (λ (m : ℕ). n * m) e in omega (arith, q)
 
--- a word that is worked out of a part of a sum is that of its code
-module _ (s : Settings) (r : Reach s) (bias : ℕ) (a : Triple) (p : Pixel) (low : Low (most (s .depth)) p) (ha : Coded (s .precision) (most (s .depth)) bias a) (n times : ℕ)
-    (e : n ≡ code (s .precision) bias a (asRead (s .channels) p)) (t : times ≡ timesOf (s .packing) (s .depth)) where
-  below : code (s .precision) bias a (asRead (s .channels) p) < 2 ^ s .depth
-  below = code-below (s .depth) (s .precision) bias a (asRead (s .channels) p) (ha _ (read-low (s .channels) low))
+    pub first-kept : cut v ((8192 * t - 1) * 4294967297) % 4294967296 / 8192 ≡ low / (8192 * t) * t
+    first-kept =
+        rw e
+        (let q = kept in
+        let x : low / whole * whole ≤ low = omega (arith, div-add-mod' low whole) in omega (arith, q, x, room, times (low / whole)))
 
-  pub storable : (n ≤ 65535) × (n * times ≤ 65535)
-  storable = rw e (rw t (word-fits (s .packing) (s .depth) _ (r .deep) below))
+    pub second-kept : cut v ((8192 * t - 1) * 4294967297) / 4294967296 / 8192 ≡ high / (8192 * t) * t
+    second-kept =
+        rw e
+        (let q = kept in
+        let x : low / whole * whole ≤ low = omega (arith, div-add-mod' low whole) in omega (arith, q, x, room, times (high / whole)))
 
-  pub stored-is : n * times ≡ packed (s .packing) (s .depth) (code (s .precision) bias a (asRead (s .channels) p))
-  stored-is = (λ i. e i * t i) ∙ packed-times (s .packing) (s .depth) _
+-- ---- the words of a sum
+module _ (s : Settings) (deep : s .depth ≤ 16) {total : ℤ} {a b : ℕ} (h : Halves total (8192 * timesOf (s .packing) (s .depth)) a b) where
+  abbrev t : ℕ
+  t = timesOf (s .packing) (s .depth)
+
+  pub not-negative : T (nonNeg total)
+  not-negative = subst⁻¹ (λ (z : ℤ). T (nonNeg z)) (h .sum) tt
+
+  module _ (v below : ℕ) (e : v ≡ natAbs total) (eb : below ≡ belowOf s) where
+    made : v ≡ h .low + h .high * 4294967296
+    made = e ∙ ap natAbs (h .sum)
+
+    abbrev k : ℕ
+    k = exponent (s .packing) (s .depth)
+
+    pub first-word : cut v below % 4294967296 / 8192 ≡ packed (s .packing) (s .depth) a
+    first-word =
+        ap (λ (n : ℕ). cut v n % 4294967296 / 8192) eb
+        ∙ first-kept k (h .low) (h .high) v made (h .room) (power-small (s .packing) (s .depth)) t (power-is (s .packing) (s .depth))
+        ∙ ap (λ (n : ℕ). n * t) (h .first)
+        ∙ packed-times (s .packing) (s .depth) a
+
+    pub second-word : cut v below / 4294967296 / 8192 ≡ packed (s .packing) (s .depth) b
+    second-word =
+        ap (λ (n : ℕ). cut v n / 4294967296 / 8192) eb
+        ∙ second-kept k (h .low) (h .high) v made (h .room) (power-small (s .packing) (s .depth)) t (power-is (s .packing) (s .depth))
+        ∙ ap (λ (n : ℕ). n * t) (h .second)
+        ∙ packed-times (s .packing) (s .depth) b
+
+    pub storable : a < 2 ^ s .depth → b < 2 ^ s .depth → (cut v below % 4294967296 / 8192 ≤ 65535) × (cut v below / 4294967296 / 8192 ≤ 65535)
+    storable la lb =
+        let x : a ≤ most (s .depth) = omega arith in
+        let y : b ≤ most (s .depth) = omega arith in
+        (omega (arith, first-word, packed-fits (s .packing) (s .depth) deep x), omega (arith, second-word, packed-fits (s .packing) (s .depth) deep y))
 
 -- ---- luma and chroma
 module _ (s : Settings) (w : Weights) (u : Usable s w) (l : Lines) (e : l ≡ linesOf s w) where
-  pub luma-line : l .luma ≡ lineFor s (biasY (s .range) (s .depth)) (lumaRow w) (lumaRow w)
+  abbrev lumaBias : ℕ
+  lumaBias = biasY (s .range) (s .depth)
+
+  abbrev row : ℕ → Line
+  row n = lineOf (pos (startOf s n)) (rowOf s (chromaRow (isU (s .order) 0) w)) (pos (startOf s n)) (rowOf s (chromaRow (isU (s .order) 1) w))
+
+  luma-line : l .luma ≡ lineTwice (pos (startOf s lumaBias)) (rowOf s (lumaRow w))
   unfolding linesOf
   luma-line = ap (λ (x : Lines). x .luma) e
 
-  pub chroma-line : l .chroma ≡ lineFor s (biasUV (s .depth)) (chromaRow (isU (s .order) 0) w) (chromaRow (isU (s .order) 1) w)
+  chroma-line : l .chroma ≡ row (biasUV (s .depth))
   unfolding linesOf
   chroma-line = ap (λ (x : Lines). x .chroma) e
 
-  pub times-line : l .times ≡ timesOf (s .packing) (s .depth)
+  pub below-line : l .below ≡ belowOf s
   unfolding linesOf
-  times-line = ap (λ (x : Lines). x .times) e
+  below-line = ap (λ (x : Lines). x .below) e
 
-  pub luma-steady : Steady (l .luma)
-  luma-steady =
-      subst⁻¹ Steady luma-line
-      (steady s _ _ _ (u .reach) (sane (s .depth) (s .range) (u .reach .shallow) (u .reach .deep) .bias-y) (luma-within u) (luma-within u))
+  module _ (p q : Pixel) (hp : Low (most (s .depth)) p) (hq : Low (most (s .depth)) q) where
+    abbrev lumaTotal : ℤ
+    lumaTotal = lineSum (l .luma) (beside (p .red) (q .red)) (beside (p .green) (q .green)) (beside (p .blue) (q .blue))
 
-  pub chroma-steady : Steady (l .chroma)
-  chroma-steady =
-      subst⁻¹ Steady chroma-line
-      (steady s _ _ _ (u .reach) (sane (s .depth) (s .range) (u .reach .shallow) (u .reach .deep) .bias-uv) (chroma-within u (isU (s .order) 0)) (chroma-within u (isU (s .order) 1)))
+    pub luma-steady : Steady (l .luma) (beside (p .red) (q .red)) (beside (p .green) (q .green)) (beside (p .blue) (q .blue))
+    luma-steady =
+        subst⁻¹ (λ (x : Line). Steady x (beside (p .red) (q .red)) (beside (p .green) (q .green)) (beside (p .blue) (q .blue))) luma-line
+        (steady-twice s (u .reach) lumaBias (bias-y (s .depth) (s .range) (u .reach .shallow)) (lumaRow w) p q (luma-within u) hp hq)
+
+    pub luma-halves : Halves lumaTotal (8192 * timesOf (s .packing) (s .depth)) (code (s .precision) lumaBias (lumaRow w) (asRead (s .channels) p)) (code (s .precision) lumaBias (lumaRow w) (asRead (s .channels) q))
+    luma-halves =
+        subst⁻¹ (λ (x : Line). Halves (lineSum x (beside (p .red) (q .red)) (beside (p .green) (q .green)) (beside (p .blue) (q .blue))) (8192 * timesOf (s .packing) (s .depth)) (code (s .precision) lumaBias (lumaRow w) (asRead (s .channels) p)) (code (s .precision) lumaBias (lumaRow w) (asRead (s .channels) q))) luma-line
+        (twice s (u .reach) lumaBias (lumaRow w) p q (u .luma-coded _ (read-low (s .channels) hp)) (u .luma-coded _ (read-low (s .channels) hq)))
+
+  module _ (p : Pixel) (low : Low (most (s .depth)) p) where
+    abbrev seen : Pixel
+    seen = asRead (s .channels) p
+
+    pub luma-below : code (s .precision) lumaBias (lumaRow w) seen < 2 ^ s .depth
+    luma-below = code-below (s .depth) (s .precision) lumaBias (lumaRow w) seen (u .luma-coded _ (read-low (s .channels) low))
+
+    pub chroma-below : (b : Bool) → code (s .precision) (biasUV (s .depth)) (chromaRow b w) seen < 2 ^ s .depth
+    chroma-below b = code-below (s .depth) (s .precision) (biasUV (s .depth)) (chromaRow b w) seen (chroma-coded s w b u _ (read-low (s .channels) low))
+
+    pub chroma-steady : Steady (l .chroma) (p .red) (p .green) (p .blue)
+    chroma-steady =
+        subst⁻¹ (λ (x : Line). Steady x (p .red) (p .green) (p .blue)) chroma-line
+        (steady s (u .reach) (biasUV (s .depth)) (bias-uv (s .depth) (u .reach .shallow)) _ _ p (chroma-within u (isU (s .order) 0)) (chroma-within u (isU (s .order) 1)) low)
+
+    pub chroma-halves : Halves (lineSum (l .chroma) (p .red) (p .green) (p .blue)) (8192 * timesOf (s .packing) (s .depth)) (code (s .precision) (biasUV (s .depth)) (chromaRow (isU (s .order) 0) w) seen) (code (s .precision) (biasUV (s .depth)) (chromaRow (isU (s .order) 1) w) seen)
+    chroma-halves =
+        subst⁻¹ (λ (x : Line). Halves (lineSum x (p .red) (p .green) (p .blue)) (8192 * timesOf (s .packing) (s .depth)) (code (s .precision) (biasUV (s .depth)) (chromaRow (isU (s .order) 0) w) seen) (code (s .precision) (biasUV (s .depth)) (chromaRow (isU (s .order) 1) w) seen)) chroma-line
+        (halves s (u .reach) (biasUV (s .depth)) _ _ p (chroma-coded s w (isU (s .order) 0) u _ (read-low (s .channels) low)) (chroma-coded s w (isU (s .order) 1) u _ (read-low (s .channels) low)))

@@ -1,7 +1,7 @@
--- The sum of a line is that of its two rows, joined, and gives both codes. Assumes nothing.
+-- The sum of a line is two sums, joined, and gives both codes. Assumes nothing.
 use mathlib.Core.Path.{_≡_, refl, sym, ap, _∙_, subst⁻¹}
-use Prim.Native.Nat.{ℕ, _+_, _-_, _*_, _/_, _^_, _≤_, _<_}
-use native.Mathlib.Nat.{mul-div-mul-right, mul-le-mul, mul-one}
+use Prim.Native.Nat.{ℕ, _+_, _-_, _*_, _/_, _%_, _^_, _≤_, _<_}
+use native.Mathlib.Nat.{mul-assoc, mul-div-mul-right, mul-le-mul, mul-one, div-add-mod', mod-lt}
 use native.Mathlib.Omega.{arith}
 use lib.Dec.{leb→le}
 use lib.Pow.{pow-add, pow-pos, pow-mono, shl-shr}
@@ -20,12 +20,40 @@ use Rattle.rules.specs.Storage.{packed}
 use Rattle.rule_laws.specs.Codes.{Low, Between}
 use Rattle.rule_laws.specs.Usable.{Reach}
 use Rattle.integer_laws.proofs.Differences.{pp, np, Is, is-self, is-pos, is-add, is-times, is-shift, is-same, abs-plus, abs-mul}
-use Rattle.joined_codes.specs.Joined.{join, scaleOf, scaledRow, turned, inOrder, asRead, lineOf, lineSum, startOf, rowOf, lineFor, timesOf, Within, Steady}
+use Rattle.joined_codes.specs.Joined.{join, beside, timesOf, scaleOf, scaledRow, turned, inOrder, asRead, lineOf, lineTwice, lineSum, startOf, rowOf, Within, Steady}
 
 -- ---- the scale
 
-pub scale-times : (precision : ℕ) → precision ≤ 13 → 2 ^ precision * scaleOf precision ≡ 8192
-scale-times precision h = let e : precision + (13 - precision) ≡ 13 = omega arith in sym (pow-add 2 precision (13 - precision)) ∙ ap (λ (n : ℕ). 2 ^ n) e
+-- 2^16 over 2^d
+pub times-is : (d : ℕ) → d ≤ 16 → 65536 / 2 ^ d ≡ 2 ^ (16 - d)
+times-is d h =
+    let e : (16 - d) + d ≡ 16 = omega arith in
+    ap (λ (n : ℕ). n / 2 ^ d) (sym (ap (λ (n : ℕ). 2 ^ n) e) ∙ pow-add 2 (16 - d) d) ∙ shl-shr (2 ^ (16 - d)) d
+
+pub times-few : (k : YuvBytesPacking) (d : ℕ) → 10 ≤ d → (1 ≤ timesOf k d) × (timesOf k d ≤ 64)
+times-few MostSignificantBytes d h = (pow-pos (16 - d), pow-mono {i = 16 - d} {j = 6} (omega arith))
+times-few LeastSignificantBytes d h = (omega arith, omega arith)
+
+pub times-room : (k : YuvBytesPacking) (d : ℕ) → d ≤ 16 → 2 ^ d * timesOf k d ≤ 65536
+times-room MostSignificantBytes d h =
+    let e : d + (16 - d) ≡ 16 = omega arith in
+    let q : 2 ^ d * 2 ^ (16 - d) ≡ 65536 = sym (pow-add 2 d (16 - d)) ∙ ap (λ (n : ℕ). 2 ^ n) e in
+    omega (arith, q)
+times-room LeastSignificantBytes d h = omega (arith, pow-mono {i = d} {j = 16} h)
+
+pub scale-times : (s : Settings) → s .precision ≤ 13 → 2 ^ s .precision * scaleOf s ≡ 8192 * timesOf (s .packing) (s .depth)
+scale-times s h =
+    let t = timesOf (s .packing) (s .depth) in
+    let e : s .precision + (13 - s .precision) ≡ 13 = omega arith in
+    sym (mul-assoc (2 ^ s .precision) (2 ^ (13 - s .precision)) t) ∙ ap (λ (n : ℕ). n * t) (sym (pow-add 2 (s .precision) (13 - s .precision)) ∙ ap (λ (n : ℕ). 2 ^ n) e)
+
+pub scale-some : (s : Settings) → 10 ≤ s .depth → 1 ≤ scaleOf s
+scale-some s h =
+    let x : 1 * 1 ≤ scaleOf s = mul-le-mul (pow-pos (13 - s .precision)) (times-few (s .packing) (s .depth) h .0) in x
+
+pub scale-few : (s : Settings) → Reach s → scaleOf s ≤ 262144
+scale-few s r =
+    let x : scaleOf s ≤ 4096 * 64 = mul-le-mul (pow-mono {i = 13 - s .precision} {j = 12} (omega (arith, r .coarse))) (times-few (s .packing) (s .depth) (r .shallow) .1) in x
 
 -- ---- sums
 
@@ -39,7 +67,7 @@ unfolding weighted
 sum-is w p = is-add (is-add (is-times (is-self (w .red)) (p .red)) (is-times (is-self (w .green)) (p .green))) (is-times (is-self (w .blue)) (p .blue))
 
 -- the sum of a line is the sums of its rows, joined
-sum-joined : (sa sb : ℤ) (a b : Triple) (p : Pixel) → lineSum (lineOf sa a sb b) p ≡ join (weighted a p +ℤ sa) (weighted b p +ℤ sb)
+sum-joined : (sa sb : ℤ) (a b : Triple) (p : Pixel) → lineSum (lineOf sa a sb b) (p .red) (p .green) (p .blue) ≡ join (weighted a p +ℤ sa) (weighted b p +ℤ sb)
 unfolding lineSum
 sum-joined sa sb a b p =
     is-same
@@ -47,6 +75,17 @@ sum-joined sa sb a b p =
     (is-add (is-add (joined (is-self sa) (is-self sb)) (is-times (joined (is-self (a .red)) (is-self (b .red))) (p .red))) (is-times (joined (is-self (a .green)) (is-self (b .green))) (p .green)))
     (is-times (joined (is-self (a .blue)) (is-self (b .blue))) (p .blue)))
     (is-shift (joined (is-add (sum-is a p) (is-self sa)) (is-add (sum-is b p) (is-self sb))) (omega arith))
+
+-- the sum of a line for two pixels beside each other is their sums, joined
+sum-twice : (start : ℤ) (w : Triple) (p q : Pixel)
+    → lineSum (lineTwice start w) (beside (p .red) (q .red)) (beside (p .green) (q .green)) (beside (p .blue) (q .blue)) ≡ join (weighted w p +ℤ start) (weighted w q +ℤ start)
+unfolding lineSum
+sum-twice start w p q =
+    is-same
+    (is-add
+    (is-add (is-add (joined (is-self start) (is-self start)) (is-times (is-self (w .red)) (beside (p .red) (q .red)))) (is-times (is-self (w .green)) (beside (p .green) (q .green))))
+    (is-times (is-self (w .blue)) (beside (p .blue) (q .blue))))
+    (is-shift (joined (is-add (sum-is w p) (is-self start)) (is-add (sum-is w q) (is-self start))) (omega arith))
 
 -- a scaled row's sum with a scaled start
 sum-scaled : (scale start : ℕ) (w : Triple) (p : Pixel) → weighted (scaledRow scale w) p +ℤ pos (start * scale) ≡ (weighted w p +ℤ pos start) *ℤ pos scale
@@ -80,74 +119,85 @@ counted : (z : ℤ) (divisor m : ℕ) → Between (pos 0) (pos m) (shrZ z diviso
 counted (pos n) divisor m b = record { number = n; is = refl; small = leb→le (n / divisor) m (b .high); quotient = refl }
 counted (negsuc n) divisor m b = absurd (b .low)
 
--- what a line's sum is made of: the first code and the second, each times 2^13, 2^32 apart
-pub record Halves (s : Settings) (bias : ℕ) (a b : Triple) (p : Pixel) : Type 0 where
+-- what a line's sum is made of: two numbers 2^32 apart, each of which has its code so many times
+pub record Halves (total : ℤ) (divisor a b : ℕ) : Type 0 where
   pub low : ℕ
   pub high : ℕ
-  pub sum : lineSum (lineFor s bias a b) p ≡ pos (low + high * 4294967296)
+  pub sum : total ≡ pos (low + high * 4294967296)
   pub room : low < 4294967296
-  pub first : low / 8192 ≡ code (s .precision) bias a (asRead (s .channels) p)
-  pub second : high / 8192 ≡ code (s .precision) bias b (asRead (s .channels) p)
+  pub first : low / divisor ≡ a
+  pub second : high / divisor ≡ b
 
-module _ (s : Settings) (reach : Reach s) (bias : ℕ) (p : Pixel) where
-  abbrev seen : Pixel
-  seen = asRead (s .channels) p
+-- so much is less than one code more
+under-next : (n divisor c : ℕ) → 0 < divisor → n / divisor ≡ c → n < (c + 1) * divisor
+under-next n divisor c h e =
+    let q : n / divisor * divisor ≡ c * divisor = ap (λ (k : ℕ). k * divisor) e in
+    omega (arith, q, div-add-mod' n divisor, mod-lt n h)
 
-  abbrev scale : ℕ
-  scale = scaleOf (s .precision)
+module _ (s : Settings) (reach : Reach s) (bias : ℕ) where
+  abbrev divisor : ℕ
+  divisor = 8192 * timesOf (s .packing) (s .depth)
 
-  row-sum : (w : Triple) → weighted (rowOf s w) p +ℤ pos (startOf (s .precision) bias) ≡ beforeDivision (s .precision) bias w seen *ℤ pos scale
-  row-sum w =
-      sum-scaled scale (bias * 2 ^ s .precision + (2 ^ (s .precision - 1) - 1)) (inOrder (s .channels) w) p
-      ∙ ap (λ (z : ℤ). (z +ℤ pos (bias * 2 ^ s .precision + (2 ^ (s .precision - 1) - 1))) *ℤ pos scale) (sum-ordered (s .channels) w p)
+  abbrev coded : Triple → Pixel → ℕ
+  coded w p = code (s .precision) bias w (asRead (s .channels) p)
 
-  -- the row of one code
-  record Row (w : Triple) : Type 0 where
+  abbrev Fits : Triple → Pixel → Type 0
+  Fits w p = Between (pos 0) (pos (most (s .depth))) (signedCode (s .precision) bias w (asRead (s .channels) p))
+
+  row-sum : (w : Triple) (p : Pixel) → weighted (rowOf s w) p +ℤ pos (startOf s bias) ≡ beforeDivision (s .precision) bias w (asRead (s .channels) p) *ℤ pos (scaleOf s)
+  row-sum w p =
+      sum-scaled (scaleOf s) (bias * 2 ^ s .precision + (2 ^ (s .precision - 1) - 1)) (inOrder (s .channels) w) p
+      ∙ ap (λ (z : ℤ). (z +ℤ pos (bias * 2 ^ s .precision + (2 ^ (s .precision - 1) - 1))) *ℤ pos (scaleOf s)) (sum-ordered (s .channels) w p)
+
+  -- the sum of one code
+  record Row (w : Triple) (p : Pixel) : Type 0 where
     number : ℕ
-    is : weighted (rowOf s w) p +ℤ pos (startOf (s .precision) bias) ≡ pos (number * scale)
-    room : number * scale < 4294967296
-    coded : number * scale / 8192 ≡ code (s .precision) bias w seen
+    is : weighted (rowOf s w) p +ℤ pos (startOf s bias) ≡ pos number
+    room : number < 4294967296
+    code-is : number / divisor ≡ coded w p
 
-  row : (w : Triple) → Between (pos 0) (pos (most (s .depth))) (signedCode (s .precision) bias w seen) → Row w
+  row : (w : Triple) (p : Pixel) → Fits w p → Row w p
   unfolding signedCode code
-  row w b =
-      let g = counted (beforeDivision (s .precision) bias w seen) (2 ^ s .precision) (most (s .depth)) b in
-      let e : 2 ^ s .precision * scale ≡ 8192 = scale-times (s .precision) (reach .fine) in
-      let q : g .number * scale / (2 ^ s .precision * scale) ≡ g .number / 2 ^ s .precision = mul-div-mul-right (g .number) (2 ^ s .precision) (pow-pos (13 - s .precision)) in
-      let r : g .number * scale / 8192 ≡ g .number / 2 ^ s .precision = subst⁻¹ (λ (n : ℕ). g .number * scale / n ≡ g .number / 2 ^ s .precision) (sym e) q in
+  row w p b =
+      let seen = asRead (s .channels) p in
+      let m = most (s .depth) in
+      let t = timesOf (s .packing) (s .depth) in
+      let g = counted (beforeDivision (s .precision) bias w seen) (2 ^ s .precision) m b in
+      let e : 2 ^ s .precision * scaleOf s ≡ divisor = scale-times s (reach .fine) in
+      let q : g .number * scaleOf s / (2 ^ s .precision * scaleOf s) ≡ g .number / 2 ^ s .precision = mul-div-mul-right (g .number) (2 ^ s .precision) (scale-some s (reach .shallow)) in
+      let r : g .number * scaleOf s / divisor ≡ g .number / 2 ^ s .precision = subst⁻¹ (λ (n : ℕ). g .number * scaleOf s / n ≡ g .number / 2 ^ s .precision) (sym e) q in
+      let some : 0 < divisor = omega (arith, times-few (s .packing) (s .depth) (reach .shallow) .0) in
+      let up : g .number / 2 ^ s .precision + 1 ≤ 2 ^ s .depth = omega (arith, g .small, pow-pos (s .depth)) in
+      let l : (g .number / 2 ^ s .precision + 1) * divisor ≤ 2 ^ s .depth * divisor = mul-le-mul up (same divisor) in
       record {
-        number = g .number;
-        is = row-sum w ∙ ap (λ (z : ℤ). z *ℤ pos scale) (g .is);
-        room = omega (arith, r, g .small, pow-mono {i = s .depth} {j = 16} (reach .deep));
-        coded = r ∙ sym (g .quotient);
+        number = g .number * scaleOf s;
+        is = row-sum w p ∙ ap (λ (z : ℤ). z *ℤ pos (scaleOf s)) (g .is);
+        room = omega (arith, under-next (g .number * scaleOf s) divisor (g .number / 2 ^ s .precision) some r, l, times-room (s .packing) (s .depth) (reach .deep));
+        code-is = r ∙ sym (g .quotient);
       }
+    where
+      same : (n : ℕ) → n ≤ n
+      same n = omega arith
 
-  pub halves : (a b : Triple) → Between (pos 0) (pos (most (s .depth))) (signedCode (s .precision) bias a seen) → Between (pos 0) (pos (most (s .depth))) (signedCode (s .precision) bias b seen) → Halves s bias a b p
-  halves a b ha hb =
-      let x = row a ha in
-      let y = row b hb in
-      record {
-        low = x .number * scale;
-        high = y .number * scale;
-        sum = sum-joined _ _ (rowOf s a) (rowOf s b) p ∙ (λ i. join (x .is i) (y .is i));
-        room = x .room;
-        first = x .coded;
-        second = y .coded;
-      }
+  -- the sum of two codes of one pixel, and of the codes of two
+  pub halves : (a b : Triple) (p : Pixel) → Fits a p → Fits b p
+      → Halves (lineSum (lineOf (pos (startOf s bias)) (rowOf s a) (pos (startOf s bias)) (rowOf s b)) (p .red) (p .green) (p .blue)) divisor (coded a p) (coded b p)
+  halves a b p ha hb =
+      let x = row a p ha in
+      let y = row b p hb in
+      record { low = x .number; high = y .number; sum = sum-joined _ _ (rowOf s a) (rowOf s b) p ∙ (λ i. join (x .is i) (y .is i)); room = x .room; first = x .code-is; second = y .code-is }
+
+  pub twice : (w : Triple) (p q : Pixel) → Fits w p → Fits w q
+      → Halves (lineSum (lineTwice (pos (startOf s bias)) (rowOf s w)) (beside (p .red) (q .red)) (beside (p .green) (q .green)) (beside (p .blue) (q .blue))) divisor (coded w p) (coded w q)
+  twice w p q hp hq =
+      let x = row w p hp in
+      let y = row w q hq in
+      record { low = x .number; high = y .number; sum = sum-twice _ (rowOf s w) p q ∙ (λ i. join (x .is i) (y .is i)); room = x .room; first = x .code-is; second = y .code-is }
 
 -- ---- sizes
 
 pub join-small : (a b : ℤ) (m n : ℕ) → natAbs a ≤ m → natAbs b ≤ n → natAbs (join a b) ≤ m + n * 4294967296
 join-small a b m n ha hb = omega (arith, abs-plus a (b *ℤ pos 4294967296), abs-mul b 4294967296)
-
-pub scaled-small : (precision : ℕ) (z : ℤ) → precision ≤ 13 → natAbs z ≤ 2 ^ precision → natAbs (z *ℤ pos (scaleOf precision)) ≤ 8192
-scaled-small precision z h l = omega (arith, abs-mul z (scaleOf precision), scale-times precision h, mul-le-mul l (refl-le (scaleOf precision)))
-  where
-    refl-le : (n : ℕ) → n ≤ n
-    refl-le n = omega arith
-
-pub within-more : {a b : ℕ} {w : Triple} → a ≤ b → Within a w → Within b w
-within-more l h = record { red = omega (arith, h .red); green = omega (arith, h .green); blue = omega (arith, h .blue) }
 
 pub in-order-within : (c : YuvSourceChannels) {b : ℕ} {w : Triple} → Within b w → Within b (inOrder c w)
 in-order-within Rgb h = h
@@ -155,41 +205,92 @@ in-order-within Rgba h = h
 in-order-within Bgra h = record { red = h .blue; green = h .green; blue = h .red }
 in-order-within Bgr h = record { red = h .blue; green = h .green; blue = h .red }
 
-pub row-within : (s : Settings) (w : Triple) → Reach s → Within (2 ^ s .precision) w → Within 8192 (rowOf s w)
-row-within s w r h =
-    let c = s .channels in
-    let o = in-order-within c h in
-    record {
-      red = scaled-small (s .precision) (inOrder c w .red) (r .fine) (o .red);
-      green = scaled-small (s .precision) (inOrder c w .green) (r .fine) (o .green);
-      blue = scaled-small (s .precision) (inOrder c w .blue) (r .fine) (o .blue);
-    }
+-- a weight of at most 2^P, scaled
+module _ (s : Settings) (r : Reach s) where
+  pub scaled-small : (z : ℤ) → natAbs z ≤ 2 ^ s .precision → natAbs z * scaleOf s ≤ 8192 * timesOf (s .packing) (s .depth)
+  scaled-small z l = omega (arith, scale-times s (r .fine), mul-le-mul l (same (scaleOf s)))
+    where
+      same : (n : ℕ) → n ≤ n
+      same n = omega arith
 
-pub start-small : (precision bias : ℕ) → precision ≤ 13 → bias ≤ 65535 → startOf precision bias ≤ 536870911
-start-small precision bias h b =
-    let q = 2 ^ precision in
-    let start : ℕ = bias * q + (2 ^ (precision - 1) - 1) in
-    let k : start + 1 ≤ 65536 * q = omega (arith, mul-le-mul b (same q), pow-mono {i = precision - 1} {j = precision} (omega arith), pow-pos (precision - 1)) in
-    let t : (start + 1) * scaleOf precision ≤ 65536 * q * scaleOf precision = mul-le-mul k (same (scaleOf precision)) in
-    by start (scaleOf precision) (65536 * q * scaleOf precision) t (omega (arith, scale-times precision h)) (pow-pos (13 - precision))
-  where
-    same : (n : ℕ) → n ≤ n
-    same n = omega arith
+  pub scaled-under : (z : ℤ) → natAbs z ≤ 2 ^ s .precision → natAbs z * scaleOf s ≤ 524288
+  scaled-under z l = omega (arith, scaled-small z l, times-few (s .packing) (s .depth) (r .shallow) .1)
 
-    by : (a s t : ℕ) → (a + 1) * s ≤ t → t ≡ 536870912 → 0 < s → a * s ≤ 536870911
-    by a s t h e l = omega arith
+  -- a row as the samples stand, with the scale that was worked out
+  pub scalable : (w : Triple) → Within (2 ^ s .precision) w → {scale : ℕ} {v : Triple} → scale ≡ scaleOf s → v ≡ inOrder (s .channels) w
+      → (scale ≤ 262144) × (natAbs (v .red) * scale ≤ 524288) × (natAbs (v .green) * scale ≤ 524288) × (natAbs (v .blue) * scale ≤ 524288)
+  scalable w h e f =
+      let o = in-order-within (s .channels) h in
+      rw f (rw e (scale-few s r, scaled-under (inOrder (s .channels) w .red) (o .red), scaled-under (inOrder (s .channels) w .green) (o .green), scaled-under (inOrder (s .channels) w .blue) (o .blue)))
 
-pub steady : (s : Settings) (bias : ℕ) (a b : Triple) → Reach s → bias ≤ 65535 → Within (2 ^ s .precision) a → Within (2 ^ s .precision) b → Steady (lineFor s bias a b)
-steady s bias a b r l ha hb =
-    let x = row-within s a r ha in
-    let y = row-within s b r hb in
-    let o = start-small (s .precision) bias (r .fine) l in
-    record {
-      start = omega (arith, o);
-      first = join-small (rowOf s a .red) (rowOf s b .red) 8192 8192 (x .red) (y .red);
-      second = join-small (rowOf s a .green) (rowOf s b .green) 8192 8192 (x .green) (y .green);
-      third = join-small (rowOf s a .blue) (rowOf s b .blue) 8192 8192 (x .blue) (y .blue);
-    }
+  scaled-abs : (z : ℤ) → natAbs z ≤ 2 ^ s .precision → natAbs (z *ℤ pos (scaleOf s)) ≤ 8192 * timesOf (s .packing) (s .depth)
+  scaled-abs z l = omega (arith, abs-mul z (scaleOf s), scaled-small z l)
+
+  pub row-within : (w : Triple) → Within (2 ^ s .precision) w → Within (8192 * timesOf (s .packing) (s .depth)) (rowOf s w)
+  row-within w h =
+      let c = s .channels in
+      let o = in-order-within c h in
+      record { red = scaled-abs (inOrder c w .red) (o .red); green = scaled-abs (inOrder c w .green) (o .green); blue = scaled-abs (inOrder c w .blue) (o .blue) }
+
+  pub row-small : (w : Triple) → Within (2 ^ s .precision) w → Within 1073741823 (rowOf s w)
+  row-small w h =
+      let x = row-within w h in
+      let t = times-few (s .packing) (s .depth) (r .shallow) .1 in
+      record { red = omega (arith, x .red, t); green = omega (arith, x .green, t); blue = omega (arith, x .blue, t) }
+
+  pub start-small : (bias : ℕ) → bias + 1 ≤ 2 ^ s .depth → startOf s bias ≤ 536870911
+  start-small bias b =
+      let q = 2 ^ s .precision in
+      let start : ℕ = bias * q + (2 ^ (s .precision - 1) - 1) in
+      let k : start + 1 ≤ (bias + 1) * q = omega (arith, pow-mono {i = s .precision - 1} {j = s .precision} (omega arith), pow-pos (s .precision - 1)) in
+      let t : (start + 1) * scaleOf s ≤ (bias + 1) * q * scaleOf s = mul-le-mul k (same (scaleOf s)) in
+      let e : (bias + 1) * q * scaleOf s ≡ (bias + 1) * (8192 * timesOf (s .packing) (s .depth)) = mul-assoc (bias + 1) q (scaleOf s) ∙ ap (λ (n : ℕ). (bias + 1) * n) (scale-times s (r .fine)) in
+      let l : (bias + 1) * timesOf (s .packing) (s .depth) ≤ 2 ^ s .depth * timesOf (s .packing) (s .depth) = mul-le-mul b (same (timesOf (s .packing) (s .depth))) in
+      by start (scaleOf s) ((bias + 1) * q * scaleOf s) t (omega (arith, e, l, times-room (s .packing) (s .depth) (r .deep))) (scale-some s (r .shallow))
+    where
+      same : (n : ℕ) → n ≤ n
+      same n = omega arith
+
+      by : (a s t : ℕ) → (a + 1) * s ≤ t → t ≤ 536870912 → 1 ≤ s → a * s ≤ 536870911
+      by a s t h e l = omega arith
+
+  -- m times what a code is multiplied by
+  most-times : most (s .depth) * timesOf (s .packing) (s .depth) ≤ 65535
+  most-times = by (most (s .depth)) (timesOf (s .packing) (s .depth)) (2 ^ s .depth) (omega (arith, pow-pos (s .depth))) (times-room (s .packing) (s .depth) (r .deep)) (times-few (s .packing) (s .depth) (r .shallow) .0)
+    where
+      by : (m t p : ℕ) → m + 1 ≡ p → p * t ≤ 65536 → 1 ≤ t → m * t ≤ 65535
+      by m t p e h l = let q : p * t ≡ (m + 1) * t = ap (λ (n : ℕ). n * t) (sym e) in omega arith
+
+  -- a weight of two rows times a sample, and a weight of one row times two samples
+  joined-by-one : (n x : ℕ) → n ≤ 8192 * timesOf (s .packing) (s .depth) * 4294967297 → x ≤ most (s .depth) → n * x ≤ 2305807825378467840
+  joined-by-one n x h l = omega (arith, mul-le-mul h l, most-times)
+
+  one-by-joined : (n x : ℕ) → n ≤ 8192 * timesOf (s .packing) (s .depth) → x ≤ most (s .depth) * 4294967297 → n * x ≤ 2305807825378467840
+  one-by-joined n x h l = omega (arith, mul-le-mul h l, most-times)
+
+  module _ (bias : ℕ) (inside : bias + 1 ≤ 2 ^ s .depth) where
+    pub steady : (a b : Triple) (p : Pixel) → Within (2 ^ s .precision) a → Within (2 ^ s .precision) b → Low (most (s .depth)) p
+        → Steady (lineOf (pos (startOf s bias)) (rowOf s a) (pos (startOf s bias)) (rowOf s b)) (p .red) (p .green) (p .blue)
+    steady a b p ha hb low =
+        let x = row-within a ha in
+        let y = row-within b hb in
+        record {
+          start = omega (arith, start-small bias inside);
+          first = joined-by-one _ (p .red) (omega (arith, join-small (rowOf s a .red) (rowOf s b .red) _ _ (x .red) (y .red))) (low .red);
+          second = joined-by-one _ (p .green) (omega (arith, join-small (rowOf s a .green) (rowOf s b .green) _ _ (x .green) (y .green))) (low .green);
+          third = joined-by-one _ (p .blue) (omega (arith, join-small (rowOf s a .blue) (rowOf s b .blue) _ _ (x .blue) (y .blue))) (low .blue);
+        }
+
+    pub steady-twice : (w : Triple) (p q : Pixel) → Within (2 ^ s .precision) w → Low (most (s .depth)) p → Low (most (s .depth)) q
+        → Steady (lineTwice (pos (startOf s bias)) (rowOf s w)) (beside (p .red) (q .red)) (beside (p .green) (q .green)) (beside (p .blue) (q .blue))
+    steady-twice w p q h hp hq =
+        let x = row-within w h in
+        record {
+          start = omega (arith, start-small bias inside);
+          first = one-by-joined _ _ (x .red) (omega (arith, hp .red, hq .red));
+          second = one-by-joined _ _ (x .green) (omega (arith, hp .green, hq .green));
+          third = one-by-joined _ _ (x .blue) (omega (arith, hp .blue, hq .blue));
+        }
 
 -- ---- reading and storing
 
@@ -202,9 +303,3 @@ read-low Bgr h = record { red = h .blue; green = h .green; blue = h .red }
 pub packed-times : (k : YuvBytesPacking) (d c : ℕ) → c * timesOf k d ≡ packed k d c
 packed-times MostSignificantBytes d c = refl
 packed-times LeastSignificantBytes d c = mul-one c
-
--- 2^16 over 2^d
-pub times-is : (d : ℕ) → d ≤ 16 → 65536 / 2 ^ d ≡ 2 ^ (16 - d)
-times-is d h =
-    let e : (16 - d) + d ≡ 16 = omega arith in
-    ap (λ (n : ℕ). n / 2 ^ d) (sym (ap (λ (n : ℕ). 2 ^ n) e) ∙ pow-add 2 (16 - d) d) ∙ shl-shr (2 ^ (16 - d)) d

@@ -1,5 +1,6 @@
 -- The lines by which a row's words are worked out. Definitions only.
 use Prim.Native.Nat.{ℕ, _+_, _-_, _*_, _^_, _≤_}
+use lib.Bits.{bitAnd}
 use lib.IntN.{ℤ, pos, natAbs, _+ℤ_, _*ℤ_}
 use Rattle.rules.specs.declared.Settings.{Settings}
 use Rattle.rules.specs.declared.Weights.{Weights}
@@ -20,9 +21,18 @@ use Rattle.joined_codes.specs.declared.lines.Lines.{Lines}
 abbrev pub join : ℤ → ℤ → ℤ
 join a b = a +ℤ b *ℤ pos 4294967296
 
--- 2^13 over 2^P
-abbrev pub scaleOf : ℕ → ℕ
-scaleOf precision = 2 ^ (13 - precision)
+-- the same of two samples
+abbrev pub beside : ℕ → ℕ → ℕ
+beside a b = a + b * 4294967296
+
+-- "most-significant packing multiplies the code by 2^(16−d), least-significant keeps it"
+abbrev pub timesOf : YuvBytesPacking → ℕ → ℕ
+timesOf MostSignificantBytes d = 2 ^ (16 - d)
+timesOf LeastSignificantBytes d = 1
+
+-- 2^13 over 2^P, times what a code is multiplied by
+abbrev pub scaleOf : Settings → ℕ
+scaleOf s = 2 ^ (13 - s .precision) * timesOf (s .packing) (s .depth)
 
 abbrev pub scaledRow : ℕ → Triple → Triple
 scaledRow scale w = record { red = w .red *ℤ pos scale; green = w .green *ℤ pos scale; blue = w .blue *ℤ pos scale }
@@ -55,37 +65,40 @@ asRead Bgr p = record { red = p .blue; green = p .green; blue = p .red }
 abbrev pub lineOf : ℤ → Triple → ℤ → Triple → Line
 lineOf sa a sb b = record { start = join sa sb; first = join (a .red) (b .red); second = join (a .green) (b .green); third = join (a .blue) (b .blue) }
 
--- its sum for a pixel
-unfoldable pub lineSum : Line → Pixel → ℤ
-lineSum l p = l .start +ℤ l .first *ℤ pos (p .red) +ℤ l .second *ℤ pos (p .green) +ℤ l .third *ℤ pos (p .blue)
+-- one line for two pixels that stand beside each other, by one row of weights
+abbrev pub lineTwice : ℤ → Triple → Line
+lineTwice start w = record { start = join start start; first = w .red; second = w .green; third = w .blue }
+
+-- the sum of a line for three numbers
+unfoldable pub lineSum : Line → ℕ → ℕ → ℕ → ℤ
+lineSum l a b c = l .start +ℤ l .first *ℤ pos a +ℤ l .second *ℤ pos b +ℤ l .third *ℤ pos c
 
 -- where a sum starts, by its bias
-abbrev pub startOf : ℕ → ℕ → ℕ
-startOf precision bias = (bias * 2 ^ precision + (2 ^ (precision - 1) - 1)) * scaleOf precision
+abbrev pub startOf : Settings → ℕ → ℕ
+startOf s bias = (bias * 2 ^ s .precision + (2 ^ (s .precision - 1) - 1)) * scaleOf s
 
 abbrev pub rowOf : Settings → Triple → Triple
-rowOf s w = scaledRow (scaleOf (s .precision)) (inOrder (s .channels) w)
+rowOf s w = scaledRow (scaleOf s) (inOrder (s .channels) w)
 
--- one line for two rows of one bias
-abbrev pub lineFor : Settings → ℕ → Triple → Triple → Line
-lineFor s bias a b = lineOf (pos (startOf (s .precision) bias)) (rowOf s a) (pos (startOf (s .precision) bias)) (rowOf s b)
+-- the bits below the words in both halves of a sum
+abbrev pub belowOf : Settings → ℕ
+belowOf s = (8192 * timesOf (s .packing) (s .depth) - 1) * 4294967297
 
--- "most-significant packing multiplies the code by 2^(16−d), least-significant keeps it"
-abbrev pub timesOf : YuvBytesPacking → ℕ → ℕ
-timesOf MostSignificantBytes d = 2 ^ (16 - d)
-timesOf LeastSignificantBytes d = 1
+-- a sum without them
+abbrev pub cut : ℕ → ℕ → ℕ
+cut v below = v - bitAnd v below
 
--- luma's line has its row twice, that of chroma the rows of the first and of the second sample of a pair
+-- luma's line is for two pixels beside each other, that of chroma has the rows of the first and of the second sample of a pair
 unfoldable pub linesOf : Settings → Weights → Lines
 linesOf s w = record {
-  luma = lineFor s (biasY (s .range) (s .depth)) (lumaRow w) (lumaRow w);
-  chroma = lineFor s (biasUV (s .depth)) (chromaRow (isU (s .order) 0) w) (chromaRow (isU (s .order) 1) w);
-  times = timesOf (s .packing) (s .depth);
+  luma = lineTwice (pos (startOf s (biasY (s .range) (s .depth)))) (rowOf s (lumaRow w));
+  chroma = lineOf (pos (startOf s (biasUV (s .depth)))) (rowOf s (chromaRow (isU (s .order) 0) w)) (pos (startOf s (biasUV (s .depth)))) (rowOf s (chromaRow (isU (s .order) 1) w));
+  below = belowOf s;
 }
 
--- the sizes with which no sum of a line passes 64 bits
-pub record Steady (l : Line) : Type 0 where
+-- the sizes with which no sum of a line for three numbers passes 64 bits
+pub record Steady (l : Line) (a b c : ℕ) : Type 0 where
   pub start : natAbs (l .start) ≤ 2305843009213693951
-  pub first : natAbs (l .first) ≤ 35184372097024
-  pub second : natAbs (l .second) ≤ 35184372097024
-  pub third : natAbs (l .third) ≤ 35184372097024
+  pub first : natAbs (l .first) * a ≤ 2305807825378467840
+  pub second : natAbs (l .second) * b ≤ 2305807825378467840
+  pub third : natAbs (l .third) * c ≤ 2305807825378467840

@@ -1,10 +1,10 @@
-// The weights of a frame as its rows use them: in the order of the samples in the source, with 2^13 in place of 2^P, and the two chroma
-// codes of a block joined in one number.
+// The weights of a frame as its rows use them: in the order of the samples in the source, scaled so that a sum has the stored word
+// 2^13 times, and two sums joined in one number.
 ghost use mathlib.Core.Path.{_≡_};
-ghost use Prim.Native.Nat.{_^_, _≤_};
+ghost use Prim.Native.Nat.{_+_, _*_, _^_, _≤_};
 ghost use lib.IntN.{pos, natAbs, _*ℤ_};
 ghost use Rattle.rule_laws.specs.Usable.{Reach, Usable};
-ghost use Rattle.joined_codes.specs.Joined.{join, scaleOf, turned, inOrder, scaledRow, rowOf, startOf, lineOf, lineFor, timesOf, linesOf, Within};
+ghost use Rattle.joined_codes.specs.Joined.{join, timesOf, scaleOf, turned, inOrder, scaledRow, rowOf, startOf, lineOf, lineTwice, belowOf, linesOf, Within};
 use rules::Settings;
 use rules::Triple;
 use rules::Weights;
@@ -22,11 +22,11 @@ pub struct Line {
     pub third: i64,
 }
 
-// The line of luma, that of both chroma codes, and what a code is multiplied by to be stored.
+// The line of luma, for two pixels at once; that of both samples of a chroma pair; and the bits below the words in a sum.
 pub struct Lines {
     pub luma: Line,
     pub chroma: Line,
-    pub times: u16,
+    pub below: u64,
 }
 
 // Two numbers in one, the second 2^32 times as large.
@@ -37,16 +37,34 @@ fn join(a: i32, b: i32) -> i64
     (a as i64) + (b as i64) * 4294967296
 }
 
-// 2^13 over 2^P.
-fn scale_of(precision: u32) -> u32
-    requires { ⌜ precision ≤ 13 ⌝ }
-    ensures { λ r. ⌜ r ≡ scaleOf precision ⌝ }
+fn wide(a: i32) -> i64
+    ensures { λ r. ⌜ r ≡ a ⌝ }
 {
-    1 << (13 - precision)
+    a as i64
+}
+
+// What a code is multiplied by to be stored.
+fn times_of(packing: YuvBytesPacking, depth: u32) -> u32
+    requires { ⌜ (10 ≤ depth) × (depth ≤ 16) ⌝ }
+    ensures { λ r. ⌜ (r ≡ timesOf packing depth) × (1 ≤ r) × (r ≤ 64) ⌝ }
+{
+    match packing {
+        YuvBytesPacking::MostSignificantBytes => 65536u32 >> depth,
+        YuvBytesPacking::LeastSignificantBytes => 1,
+    }
+}
+
+// 2^13 over 2^P, times that.
+fn scale_of(s: Settings) -> u32
+    requires { ⌜ Reach s ⌝ }
+    ensures { λ r. ⌜ r ≡ scaleOf s ⌝ }
+{
+    let packing = s.packing;
+    (1u32 << (13 - s.precision)) * times_of(packing, s.depth)
 }
 
 fn scaled(scale: u32, weight: i32) -> i32
-    requires { ⌜ (scale ≤ 4096) × (natAbs weight ≤ 8192) ⌝ }
+    requires { ⌜ (scale ≤ 262144) × (natAbs weight * scale ≤ 524288) ⌝ }
     ensures { λ r. ⌜ r ≡ weight *ℤ pos scale ⌝ }
 {
     weight * (scale as i32)
@@ -76,7 +94,7 @@ fn in_order(channels: YuvSourceChannels, w: Triple) -> Triple
 }
 
 fn scaled_row(scale: u32, w: Triple) -> Triple
-    requires { ⌜ (scale ≤ 4096) × (Within 8192 w) ⌝ }
+    requires { ⌜ (scale ≤ 262144) × (natAbs (w .red) * scale ≤ 524288) × (natAbs (w .green) * scale ≤ 524288) × (natAbs (w .blue) * scale ≤ 524288) ⌝ }
     ensures { λ r. ⌜ r ≡ scaledRow scale w ⌝ }
 {
     Triple {
@@ -93,15 +111,15 @@ fn row_of(s: Settings, w: Triple) -> Triple
     ensures { λ r. ⌜ r ≡ rowOf s w ⌝ }
 {
     let channels = s.channels;
-    scaled_row(scale_of(s.precision), in_order(channels, w))
+    scaled_row(scale_of(s), in_order(channels, w))
 }
 
 // Where a sum starts, scaled.
-fn start_of(precision: u32, bias: u32) -> i32
-    requires { ⌜ (1 ≤ precision) × (precision ≤ 13) × (bias ≤ 65535) ⌝ }
-    ensures { λ r. ⌜ r ≡ pos (startOf precision bias) ⌝ }
+fn start_of(s: Settings, bias: u32) -> i32
+    requires { ⌜ (Reach s) × (bias + 1 ≤ 2 ^ s .depth) ⌝ }
+    ensures { λ r. ⌜ r ≡ pos (startOf s bias) ⌝ }
 {
-    (code::start(precision, bias) * scale_of(precision)) as i32
+    (code::start(s.precision, bias) * scale_of(s)) as i32
 }
 
 fn line_of(sa: i32, a: Triple, sb: i32, b: Triple) -> Line
@@ -116,42 +134,59 @@ fn line_of(sa: i32, a: Triple, sb: i32, b: Triple) -> Line
     }
 }
 
-// One line for two rows of one bias.
-fn line_for(s: Settings, bias: u32, a: Triple, b: Triple) -> Line
-    requires { ⌜ (Reach s) × (bias ≤ 65535) ⌝ }
-    requires { ⌜ (Within (2 ^ s .precision) a) × (Within (2 ^ s .precision) b) ⌝ }
-    ensures { λ r. ⌜ r ≡ lineFor s bias a b ⌝ }
+fn line_twice(start: i32, w: Triple) -> Line
+    requires { ⌜ natAbs start ≤ 1073741823 ⌝ }
+    ensures { λ r. ⌜ r ≡ lineTwice start w ⌝ }
 {
-    let start = start_of(s.precision, bias);
-    line_of(start, row_of(s, a), start, row_of(s, b))
-}
-
-// What a code is multiplied by to be stored; a shift by the depth would come back as one in each turn of a loop.
-fn times_of(packing: YuvBytesPacking, depth: u32) -> u16
-    requires { ⌜ (10 ≤ depth) × (depth ≤ 16) ⌝ }
-    ensures { λ r. ⌜ r ≡ timesOf packing depth ⌝ }
-{
-    match packing {
-        YuvBytesPacking::MostSignificantBytes => (65536u32 >> depth) as u16,
-        YuvBytesPacking::LeastSignificantBytes => 1,
+    Line {
+        start: join(start, start),
+        first: wide(w.red),
+        second: wide(w.green),
+        third: wide(w.blue),
     }
 }
 
-// Worked out once for a row: luma's line has its row twice, that of chroma the rows of the first and of the second sample of a pair.
+// Luma's line, for two pixels beside each other.
+fn luma_line(s: Settings, bias: u32, w: Triple) -> Line
+    requires { ⌜ (Reach s) × (bias + 1 ≤ 2 ^ s .depth) ⌝ }
+    requires { ⌜ Within (2 ^ s .precision) w ⌝ }
+    ensures { λ r. ⌜ r ≡ lineTwice (pos (startOf s bias)) (rowOf s w) ⌝ }
+{
+    line_twice(start_of(s, bias), row_of(s, w))
+}
+
+// One line for two rows of one bias.
+fn chroma_line(s: Settings, bias: u32, a: Triple, b: Triple) -> Line
+    requires { ⌜ (Reach s) × (bias + 1 ≤ 2 ^ s .depth) ⌝ }
+    requires { ⌜ (Within (2 ^ s .precision) a) × (Within (2 ^ s .precision) b) ⌝ }
+    ensures { λ r. ⌜ r ≡ lineOf (pos (startOf s bias)) (rowOf s a) (pos (startOf s bias)) (rowOf s b) ⌝ }
+{
+    let start = start_of(s, bias);
+    line_of(start, row_of(s, a), start, row_of(s, b))
+}
+
+fn below_of(s: Settings) -> u64
+    requires { ⌜ Reach s ⌝ }
+    ensures { λ r. ⌜ r ≡ belowOf s ⌝ }
+{
+    let packing = s.packing;
+    (8192 * (times_of(packing, s.depth) as u64) - 1) * 4294967297
+}
+
+// Worked out once for a row.
 pub fn lines_of(s: Settings, w: Weights) -> Lines
     requires { ⌜ Usable s w ⌝ }
     ensures { λ r. ⌜ r ≡ linesOf s w ⌝ }
 {
     let order = s.order;
-    let packing = s.packing;
     let range = s.range;
     let g = ranges::get_yuv_range(s.depth, range);
     let y = code::luma_row(w);
     let first = word::chroma_row(word::is_u(order, 0), w);
     let second = word::chroma_row(word::is_u(order, 1), w);
     Lines {
-        luma: line_for(s, g.bias_y, y, y),
-        chroma: line_for(s, g.bias_uv, first, second),
-        times: times_of(packing, s.depth),
+        luma: luma_line(s, g.bias_y, y),
+        chroma: chroma_line(s, g.bias_uv, first, second),
+        below: below_of(s),
     }
 }

@@ -27,6 +27,16 @@ filled-pair y y₀ x v v′ f h l e d =
     let n : 2 * x + 2 ≡ 2 * (x + 1) = omega arith in
     subst (λ (k : ℕ). Filled (set (set y (2 * x) v) (2 * x + 1) v′) y₀ k f) n (filled-two y y₀ (2 * x) v v′ f h l e d)
 
+-- two pairs from 2·x on
+pub filled-four : (y y₀ : List ℕ) (x v v′ w w′ : ℕ) (f : ℕ → ℕ) → Filled y y₀ (2 * x) f → 2 * x + 4 ≤ length y₀ → v ≡ f (2 * x) → v′ ≡ f (2 * x + 1) → w ≡ f (2 * x + 2) → w′ ≡ f (2 * x + 3)
+    → Filled (set (set (set (set y (2 * x) v) (2 * x + 1) v′) (2 * x + 2) w) (2 * x + 3) w′) y₀ (2 * (x + 2)) f
+filled-four y y₀ x v v′ w w′ f h l e e′ d d′ =
+    let a : 2 * x + 2 + 1 ≡ 2 * x + 3 = omega arith in
+    let n : 2 * x + 2 + 2 ≡ 2 * (x + 2) = omega arith in
+    let z = set (set (set y (2 * x) v) (2 * x + 1) v′) (2 * x + 2) w in
+    subst (λ (k : ℕ). Filled (set z (2 * x + 3) w′) y₀ k f) n
+    (subst (λ (k : ℕ). Filled (set z k w′) y₀ (2 * x + 2 + 2) f) a (filled-two _ y₀ (2 * x + 2) w w′ f (filled-two y y₀ (2 * x) v v′ f h (omega arith) e e′) (omega arith) d (d′ ∙ sym (ap f a))))
+
 pub long-small : (c : YuvSourceChannels) (width long : ℕ) → width ≤ 16384 → long ≡ width * count c → long ≤ 65536
 long-small Rgb width long h e = omega arith
 long-small Rgba width long h e = omega arith

@@ -45,14 +45,20 @@ fn begin_pixels(
     let l = lines::lines_of(s, w);
     let mut x = 0;
     let mut i = 0;
-    while i + n <= rgba.len() {
+    while i + 2 * n <= rgba.len() {
         let p = channels::pixel_at(YuvSourceChannels::Rgb, rgba, i);
-        luma[x] = words::luma_word(s, w, l, p);
+        let q = channels::pixel_at(YuvSourceChannels::Rgb, rgba, i + n);
+        let y = words::luma_words(s, w, l, p, q);
+        luma[x] = y.first;
+        luma[x + 1] = y.second;
         let c = words::chroma_words(s, w, l, p);
         chroma[2 * x] = c.first;
         chroma[2 * x + 1] = c.second;
-        x += 1;
-        i += n;
+        let d = words::chroma_words(s, w, l, q);
+        chroma[2 * x + 2] = d.first;
+        chroma[2 * x + 3] = d.second;
+        x += 2;
+        i += 2 * n;
     }
     x
 }
@@ -79,9 +85,10 @@ fn begin_pairs(
     let mut i = 0;
     while i + 2 * n <= rgba.len() {
         let p = channels::pixel_at(YuvSourceChannels::Rgb, rgba, i);
-        luma[x] = words::luma_word(s, w, l, p);
         let q = channels::pixel_at(YuvSourceChannels::Rgb, rgba, i + n);
-        luma[x + 1] = words::luma_word(s, w, l, q);
+        let y = words::luma_words(s, w, l, p, q);
+        luma[x] = y.first;
+        luma[x + 1] = y.second;
         let c = words::chroma_words(s, w, l, mean::mean_of_two(p, q));
         chroma[x] = c.first;
         chroma[x + 1] = c.second;
@@ -117,13 +124,15 @@ fn begin_blocks(
         let x = 2 * pair;
         let i = x * n;
         let p = channels::pixel_at(YuvSourceChannels::Rgb, upper, i);
-        luma[x] = words::luma_word(s, w, l, p);
         let q = channels::pixel_at(YuvSourceChannels::Rgb, upper, i + n);
-        luma[x + 1] = words::luma_word(s, w, l, q);
+        let y = words::luma_words(s, w, l, p, q);
+        luma[x] = y.first;
+        luma[x + 1] = y.second;
         let u = channels::pixel_at(YuvSourceChannels::Rgb, lower, i);
-        luma[luma_stride + x] = words::luma_word(s, w, l, u);
         let v = channels::pixel_at(YuvSourceChannels::Rgb, lower, i + n);
-        luma[luma_stride + x + 1] = words::luma_word(s, w, l, v);
+        let z = words::luma_words(s, w, l, u, v);
+        luma[luma_stride + x] = z.first;
+        luma[luma_stride + x + 1] = z.second;
         let c = words::chroma_words(s, w, l, mean::mean_of_four(p, q, u, v));
         chroma[x] = c.first;
         chroma[x + 1] = c.second;

@@ -2,17 +2,17 @@
 use borrow.Author.Needs.{needs}
 use mathlib.Core.Path.{_≡_, ap, _∙_, subst⁻¹}
 use mathlib.Core.Bool.{Bool}
-use Prim.Native.Nat.{ℕ, _^_, _≤_}
+use lib.IntN.{pos}
+use Prim.Native.Nat.{ℕ, _+_, _^_, _≤_}
 use Rattle.rules.specs.declared.Settings.{Settings}
 use Rattle.rules.specs.declared.Weights.{Weights}
 use Rattle.rules.specs.Ranges.{biasY, biasUV}
 use Rattle.rules.specs.Channels.{isU}
 use Rattle.rule_laws.specs.Usable.{Usable}
-use Rattle.rule_laws.proofs.Depths.{sane}
 use Rattle.tolerance_laws.specs.Chroma.{chromaRow}
 use Rattle.yuv_support.specs.declared.ranges.YuvChromaRange.{YuvChromaRange}
-use Rattle.joined_codes.specs.Joined.{lineFor, linesOf, Within}
-use Rattle.joined_codes.proofs.Stores.{luma-within, chroma-within}
+use Rattle.joined_codes.specs.Joined.{lineOf, lineTwice, startOf, rowOf, linesOf, Within}
+use Rattle.joined_codes.proofs.Stores.{luma-within, chroma-within, bias-y, bias-uv}
 use Rattle.joined_codes.proofs.lines.lines_of.Statement.{statement}
 use Rattle.joined_codes.proofs.lines.lines_of.Tie as tie
 
@@ -45,11 +45,11 @@ module _ (c : tie.After-chroma-row2) where
   abbrev u : Usable s w
   u = c .before .before .before .before .before .before .pre
 
-  bias-y : c .before .before .before .before .before .get-yuv-range .result .«bias_y» ≡ biasY (s .range) (s .depth)
-  bias-y = ap (λ (r : YuvChromaRange). r .«bias_y») (c .before .before .before .before .before .get-yuv-range .ensures)
+  y-bias : c .before .before .before .before .before .get-yuv-range .result .«bias_y» ≡ biasY (s .range) (s .depth)
+  y-bias = ap (λ (r : YuvChromaRange). r .«bias_y») (c .before .before .before .before .before .get-yuv-range .ensures)
 
-  bias-uv : c .before .before .before .before .before .get-yuv-range .result .«bias_uv» ≡ biasUV (s .depth)
-  bias-uv = ap (λ (r : YuvChromaRange). r .«bias_uv») (c .before .before .before .before .before .get-yuv-range .ensures)
+  uv-bias : c .before .before .before .before .before .get-yuv-range .result .«bias_uv» ≡ biasUV (s .depth)
+  uv-bias = ap (λ (r : YuvChromaRange). r .«bias_uv») (c .before .before .before .before .before .get-yuv-range .ensures)
 
   first : c .before .before .chroma-row .result ≡ chromaRow (isU (s .order) 0) w
   first = c .before .before .chroma-row .ensures ∙ ap (λ (b : Bool). chromaRow b w) (c .before .before .before .is-u .ensures)
@@ -57,23 +57,24 @@ module _ (c : tie.After-chroma-row2) where
   second : c .chroma-row2 .result ≡ chromaRow (isU (s .order) 1) w
   second = c .chroma-row2 .ensures ∙ ap (λ (b : Bool). chromaRow b w) (c .before .is-u2 .ensures)
 
-line-for-requires : tie.Need-line-for-requires
-line-for-requires c κs =
-    let within = subst⁻¹ (Within (2 ^ s c .precision)) (c .before .before .before .before .luma-row .ensures) (luma-within (u c)) in
-    ((u c .reach, subst⁻¹ (λ (n : ℕ). n ≤ 65535) (bias-y c) (sane (s c .depth) (s c .range) (u c .reach .shallow) (u c .reach .deep) .bias-y)), (within, within))
+luma-line-requires : tie.Need-luma-line-requires
+luma-line-requires c κs = (
+  (u c .reach, subst⁻¹ (λ (n : ℕ). n + 1 ≤ 2 ^ s c .depth) (y-bias c) (bias-y (s c .depth) (s c .range) (u c .reach .shallow))),
+  subst⁻¹ (Within (2 ^ s c .precision)) (c .before .before .before .before .luma-row .ensures) (luma-within (u c)),
+)
 
-line-for-requires-2 : tie.Need-line-for-requires-2
-line-for-requires-2 d κs =
+chroma-line-requires : tie.Need-chroma-line-requires
+chroma-line-requires d κs =
     let c = d .before in (
-      (u c .reach, subst⁻¹ (λ (n : ℕ). n ≤ 65535) (bias-uv c) (sane (s c .depth) (s c .range) (u c .reach .shallow) (u c .reach .deep) .bias-uv)),
+      (u c .reach, subst⁻¹ (λ (n : ℕ). n + 1 ≤ 2 ^ s c .depth) (uv-bias c) (bias-uv (s c .depth) (u c .reach .shallow))),
       (
         subst⁻¹ (Within (2 ^ s c .precision)) (first c) (chroma-within (u c) (isU (s c .order) 0)),
         subst⁻¹ (Within (2 ^ s c .precision)) (second c) (chroma-within (u c) (isU (s c .order) 1)),
       ),
     )
 
-times-of-requires : tie.Need-times-of-requires
-times-of-requires c κs = search needs
+below-of-requires : tie.Need-below-of-requires
+below-of-requires c κs = search needs
 
 returns : tie.Need-returns
 unfolding linesOf
@@ -81,9 +82,9 @@ returns d =
     let c = d .before .before .before in
     let y = c .before .before .before .before .luma-row .ensures in
     λ i. record {
-      luma = (d .before .before .line-for .ensures ∙ (λ j. lineFor (s c) (bias-y c j) (y j) (y j))) i;
-      chroma = (d .before .line-for2 .ensures ∙ (λ j. lineFor (s c) (bias-uv c j) (first c j) (second c j))) i;
-      times = d .times-of .ensures i;
+      luma = (d .before .before .luma-line .ensures ∙ (λ j. lineTwice (pos (startOf (s c) (y-bias c j))) (rowOf (s c) (y j)))) i;
+      chroma = (d .before .chroma-line .ensures ∙ (λ j. lineOf (pos (startOf (s c) (uv-bias c j))) (rowOf (s c) (first c j)) (pos (startOf (s c) (uv-bias c j))) (rowOf (s c) (second c j)))) i;
+      below = d .below-of .ensures i;
     }
 
 pub lines-of-spec : {M : Type 1} → statement M
@@ -96,7 +97,7 @@ lines-of-spec =
     chroma-row-requires
     is-u-requires-2
     chroma-row-requires-2
-    line-for-requires
-    line-for-requires-2
-    times-of-requires
+    luma-line-requires
+    chroma-line-requires
+    below-of-requires
     returns)

@@ -1,11 +1,8 @@
 -- `joined_codes::lines::row_of` meets its contract. Assumes nothing.
 use borrow.Author.Needs.{needs}
-use mathlib.Core.Path.{_∙_, subst⁻¹}
-use Prim.Native.Nat.{_-_}
-use native.Mathlib.Omega.{arith}
-use lib.Pow.{pow-mono}
-use Rattle.joined_codes.specs.Joined.{scaledRow, Within}
-use Rattle.joined_codes.proofs.Sums.{in-order-within, within-more}
+use mathlib.Core.Path.{_∙_}
+use Rattle.joined_codes.specs.Joined.{scaledRow}
+use Rattle.joined_codes.proofs.Sums.{scalable}
 use Rattle.joined_codes.proofs.lines.row_of.Statement.{statement}
 use Rattle.joined_codes.proofs.lines.row_of.Tie as tie
 
@@ -18,10 +15,7 @@ in-order-requires c κs = search needs
 scaled-row-requires : tie.Need-scaled-row-requires
 scaled-row-requires c κs =
     let v = c .before .before .args in
-    let r = c .before .before .pre .0 in (
-      omega (arith, c .before .scale-of .ensures, pow-mono {i = 13 - v .s .precision} {j = 12} (omega (arith, r .coarse))),
-      subst⁻¹ (Within 8192) (c .in-order .ensures) (in-order-within (v .s .channels) (within-more (pow-mono {i = v .s .precision} {j = 13} (r .fine)) (c .before .before .pre .1))),
-    )
+    scalable (v .s) (c .before .before .pre .0) (v .w) (c .before .before .pre .1) (c .before .scale-of .ensures) (c .in-order .ensures)
 
 returns : tie.Need-returns
 returns c = c .scaled-row .ensures ∙ (λ i. scaledRow (c .before .before .scale-of .ensures i) (c .before .in-order .ensures i))

@@ -1,7 +1,10 @@
 -- `joined_codes::lines::scale_of` meets its contract. Assumes nothing.
 use borrow.Author.Needs.{needs}
-use Prim.Native.Nat.{_-_}
+use mathlib.Core.Path.{_≡_, ap}
+use Prim.Native.Nat.{ℕ, _-_, _*_, _^_, _%_, _≤_}
+use native.Mathlib.Nat.{mul-le-mul}
 use native.Mathlib.Omega.{arith}
+use lib.Pow.{pow-mono}
 use Rattle.integer_laws.proofs.Shifts.{one-shl}
 use Rattle.joined_codes.proofs.lines.scale_of.Statement.{statement}
 use Rattle.joined_codes.proofs.lines.scale_of.Tie as tie
@@ -12,8 +15,22 @@ sub-result c = search needs
 shl-result : tie.Need-shl-result
 shl-result c = search needs
 
+times-of-requires : tie.Need-times-of-requires
+times-of-requires c κs = search needs
+
+-- the power that was worked out
+shifted : (k : ℕ) → k ≤ 13 → (1 * 2 ^ k) % 4294967296 ≡ 2 ^ k
+shifted k h = one-shl k (omega arith)
+
+mul-result : tie.Need-mul-result
+mul-result c =
+    let k : ℕ = 13 - c .before .before .args .s .precision in
+    let e = ap (λ (n : ℕ). n * c .times-of .result) (shifted k (omega arith)) in
+    let l : 2 ^ k * c .times-of .result ≤ 8192 * 64 = mul-le-mul (pow-mono {i = k} {j = 13} (omega arith)) (c .times-of .ensures .2) in
+    record { fits = omega (arith, e, l) }
+
 returns : tie.Need-returns
-returns c = one-shl (13 - c .args .precision) (omega arith)
+returns c = λ i. shifted (13 - c .before .before .args .s .precision) (omega arith) i * c .times-of .ensures .0 i
 
 pub scale-of-spec : {M : Type 1} → statement M
-scale-of-spec = tie.close (tie.spec sub-result shl-result returns)
+scale-of-spec = tie.close (tie.spec sub-result shl-result times-of-requires mul-result returns)

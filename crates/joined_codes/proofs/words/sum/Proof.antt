@@ -45,7 +45,7 @@ add-result-3 c =
 is-sum : (c : tie.After-weigh3)
     → let a = c .before .before .before .before .before .before .weigh in
     let b = c .before .before .weigh2 in
-    let v = c .before .before .before .before .before .before .before .before .args in v .l .start +ℤ a .result +ℤ b .result +ℤ c .weigh3 .result ≡ lineSum (v .l) (v .p)
+    let v = c .before .before .before .before .before .before .before .before .args in v .l .start +ℤ a .result +ℤ b .result +ℤ c .weigh3 .result ≡ lineSum (v .l) (v .a) (v .b) (v .c)
 unfolding lineSum
 is-sum c =
     let a = c .before .before .before .before .before .before .weigh in
@@ -53,9 +53,9 @@ is-sum c =
     let d = c .weigh3 in
     let v = c .before .before .before .before .before .before .before .before .args in
     let t = c .before .struct-told4 .given in
-    let x = a .ensures .0 ∙ ap (λ (y : ℤ). y *ℤ pos (v .p .red)) (toZ-ofZ w64 (v .l .first) (record { sfits = t .1 .0 .1 })) in
-    let y = b .ensures .0 ∙ ap (λ (y : ℤ). y *ℤ pos (v .p .green)) (toZ-ofZ w64 (v .l .second) (record { sfits = t .1 .1 .0 .1 })) in
-    let z = d .ensures .0 ∙ ap (λ (y : ℤ). y *ℤ pos (v .p .blue)) (toZ-ofZ w64 (v .l .third) (record { sfits = t .1 .1 .1 .0 .1 })) in
+    let x = a .ensures .0 ∙ ap (λ (y : ℤ). y *ℤ pos (v .a)) (toZ-ofZ w64 (v .l .first) (record { sfits = t .1 .0 .1 })) in
+    let y = b .ensures .0 ∙ ap (λ (y : ℤ). y *ℤ pos (v .b)) (toZ-ofZ w64 (v .l .second) (record { sfits = t .1 .1 .0 .1 })) in
+    let z = d .ensures .0 ∙ ap (λ (y : ℤ). y *ℤ pos (v .c)) (toZ-ofZ w64 (v .l .third) (record { sfits = t .1 .1 .1 .0 .1 })) in
     λ i. v .l .start +ℤ x i +ℤ y i +ℤ z i
 
 cast-result : tie.Need-cast-result
@@ -66,7 +66,7 @@ cast-result c =
     let s = c .before .before .before .before .before .before .before .before in
     subst⁻¹ (λ (z : ℤ). T (nonNeg z) × Fits w64 (natAbs z))
     (third-back (s .args .l .start) (a .result) (b .result) (d .result) (s .pre .0 .start) (a .ensures .1) (b .ensures .1) (d .ensures .1)) (
-      subst⁻¹ (λ (z : ℤ). T (nonNeg z)) (is-sum c) (s .pre .1),
+      subst⁻¹ (λ (z : ℤ). T (nonNeg z)) (is-sum c) (s .pre .1 .1),
       record { fits = omega (arith, third-small (s .args .l .start) (a .result) (b .result) (d .result) (s .pre .0 .start) (a .ensures .1) (b .ensures .1) (d .ensures .1)) },
     )
 

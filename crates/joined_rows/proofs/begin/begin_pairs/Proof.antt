@@ -25,7 +25,7 @@ Inv-loop s w width luma₀ chroma₀ rgba n l x₀ i₀ luma chroma x i =
 abbrev μ-loop : tie.MeasureT-loop
 μ-loop s w width luma₀ chroma₀ rgba n l x₀ i₀ luma chroma x i = length rgba - i
 
--- where the pair of this turn lies
+-- where the pixels of this turn lie
 record Spot (c : tie.In-loop Inv-loop μ-loop) : Type 0 where
   below : c .before .loop .x + 2 ≤ c .before .before .before .before .before .before .before .args .width
   small : c .before .before .before .before .before .before .before .args .width ≤ 16384
@@ -55,11 +55,11 @@ spot c =
 low-first : (c : tie.After-pixel-at Inv-loop μ-loop) → Low (most (c .before .before .before .before .before .before .before .before .args .s .depth)) (c .pixel-at .result)
 low-first c = at-low (c .before .before .before .before .before .before .before .before .args .s) (c .before .before .before .before .before .before .before .before .pre .1 .1 .1 .1) (c .before .before .before .before .get-channels-count .ensures) (c .before .before .loop .x) (c .before .before .loop .i) (c .before .before .loop .inv .0 .0) (c .pixel-at .ensures) (omega (arith, spot (c .before) .below))
 
-low-second : (c : tie.After-pixel-at2 Inv-loop μ-loop) → Low (most (c .before .before .before .before .before .before .before .before .before .before .args .s .depth)) (c .pixel-at2 .result)
-low-second c = at-low (c .before .before .before .before .before .before .before .before .before .before .args .s) (c .before .before .before .before .before .before .before .before .before .before .pre .1 .1 .1 .1) (c .before .before .before .before .before .before .get-channels-count .ensures) (c .before .before .before .before .loop .x + 1) _ (spot (c .before .before .before) .second) (c .pixel-at2 .ensures) (omega (arith, spot (c .before .before .before) .below))
+low-second : (c : tie.After-pixel-at2 Inv-loop μ-loop) → Low (most (c .before .before .before .before .before .before .before .before .before .args .s .depth)) (c .pixel-at2 .result)
+low-second c = at-low (c .before .before .before .before .before .before .before .before .before .args .s) (c .before .before .before .before .before .before .before .before .before .pre .1 .1 .1 .1) (c .before .before .before .before .before .get-channels-count .ensures) (c .before .before .before .loop .x + 1) _ (spot (c .before .before) .second) (c .pixel-at2 .ensures) (omega (arith, spot (c .before .before) .below))
 
-low-mean : (c : tie.After-mean-of-two Inv-loop μ-loop) → Low (most (c .before .before .before .before .before .before .before .before .before .before .before .before .args .s .depth)) (c .mean-of-two .result)
-low-mean c = subst⁻¹ (Low (most (c .before .before .before .before .before .before .before .before .before .before .before .before .args .s .depth))) (c .mean-of-two .ensures) (averaged-low (two (low-first (c .before .before .before .before)) (low-second (c .before .before))))
+low-mean : (c : tie.After-mean-of-two Inv-loop μ-loop) → Low (most (c .before .before .before .before .before .before .before .before .before .before .before .args .s .depth)) (c .mean-of-two .result)
+low-mean c = subst⁻¹ (Low (most (c .before .before .before .before .before .before .before .before .before .before .before .args .s .depth))) (c .mean-of-two .ensures) (averaged-low (two (low-first (c .before .before .before)) (low-second (c .before .before))))
 
 get-channels-count-requires : tie.Need-get-channels-count-requires Inv-loop μ-loop
 get-channels-count-requires c κs = search needs
@@ -81,87 +81,84 @@ add-loop c =
 pixel-at-requires : tie.Need-pixel-at-requires Inv-loop μ-loop
 pixel-at-requires c κs = at-room (c .before .before .before .before .before .before .before .args .s) (c .before .before .before .before .before .before .before .pre .1 .1 .1 .1) (c .before .before .before .get-channels-count .ensures) (c .before .loop .x) (c .before .loop .i) (c .before .loop .inv .0 .0) (omega (arith, spot c .below))
 
-luma-word-requires : tie.Need-luma-word-requires Inv-loop μ-loop
-luma-word-requires c κs = (c .before .before .before .before .before .before .before .before .pre .0, (c .before .before .before .lines-of .ensures, low-first c))
-
-mul-luma : tie.Need-mul-luma Inv-loop μ-loop
-mul-luma c = omega (arith, spot (c .before .before) .below, spot (c .before .before) .small)
-
-slice-write-luma : tie.Need-slice-write-luma Inv-loop μ-loop
-slice-write-luma c = omega (arith, spot (c .before .before) .below, spot (c .before .before) .luma-long, c .before .before .before .loop .inv .1 .0 .long)
-
 add-pixel-at : tie.Need-add-pixel-at Inv-loop μ-loop
-add-pixel-at c = omega (arith, c .before .before .loop-test .taken, spot (c .before .before) .source-small)
+add-pixel-at c = omega (arith, c .before .loop-test .taken, spot (c .before) .source-small)
 
 pixel-at-requires-2 : tie.Need-pixel-at-requires-2 Inv-loop μ-loop
-pixel-at-requires-2 c κs = at-room (c .before .before .before .before .before .before .before .before .before .args .s) (c .before .before .before .before .before .before .before .before .before .pre .1 .1 .1 .1) (c .before .before .before .before .before .get-channels-count .ensures) (c .before .before .before .loop .x + 1) _ (spot (c .before .before) .second) (omega (arith, spot (c .before .before) .below))
+pixel-at-requires-2 c κs = at-room (c .before .before .before .before .before .before .before .before .args .s) (c .before .before .before .before .before .before .before .before .pre .1 .1 .1 .1) (c .before .before .before .before .get-channels-count .ensures) (c .before .before .loop .x + 1) _ (spot (c .before) .second) (omega (arith, spot (c .before) .below))
 
-luma-word-requires-2 : tie.Need-luma-word-requires-2 Inv-loop μ-loop
-luma-word-requires-2 c κs = (c .before .before .before .before .before .before .before .before .before .before .pre .0, (c .before .before .before .before .before .lines-of .ensures, low-second c))
+luma-words-requires : tie.Need-luma-words-requires Inv-loop μ-loop
+luma-words-requires c κs = (c .before .before .before .before .before .before .before .before .before .pre .0, (c .before .before .before .before .lines-of .ensures, (low-first (c .before), low-second c)))
+
+mul-luma : tie.Need-mul-luma Inv-loop μ-loop
+mul-luma c = omega (arith, spot (c .before .before .before) .below, spot (c .before .before .before) .small)
+
+slice-write-luma : tie.Need-slice-write-luma Inv-loop μ-loop
+slice-write-luma c = omega (arith, spot (c .before .before .before) .below, spot (c .before .before .before) .luma-long, c .before .before .before .before .loop .inv .1 .0 .long)
 
 add-luma : tie.Need-add-luma Inv-loop μ-loop
-add-luma c = omega (arith, spot (c .before .before .before .before) .below, spot (c .before .before .before .before) .small)
+add-luma c = omega (arith, spot (c .before .before .before) .below, spot (c .before .before .before) .small)
 
 mul-luma-2 : tie.Need-mul-luma-2 Inv-loop μ-loop
-mul-luma-2 c = omega (arith, spot (c .before .before .before .before) .below, spot (c .before .before .before .before) .small)
+mul-luma-2 c = omega (arith, spot (c .before .before .before) .below, spot (c .before .before .before) .small)
 
 slice-write-luma-2 : tie.Need-slice-write-luma-2 Inv-loop μ-loop
-slice-write-luma-2 c = simp length-set (omega (arith, spot (c .before .before .before .before) .below, spot (c .before .before .before .before) .luma-long, c .before .before .before .before .before .loop .inv .1 .0 .long))
+slice-write-luma-2 c = simp length-set (omega (arith, spot (c .before .before .before) .below, spot (c .before .before .before) .luma-long, c .before .before .before .before .loop .inv .1 .0 .long))
 
 mean-of-two-requires : tie.Need-mean-of-two-requires Inv-loop μ-loop
 mean-of-two-requires c κs = search needs
 
 chroma-words-requires : tie.Need-chroma-words-requires Inv-loop μ-loop
-chroma-words-requires c κs = (c .before .before .before .before .before .before .before .before .before .before .before .before .pre .0, (c .before .before .before .before .before .before .before .lines-of .ensures, low-mean c))
+chroma-words-requires c κs = (c .before .before .before .before .before .before .before .before .before .before .before .pre .0, (c .before .before .before .before .before .before .lines-of .ensures, low-mean c))
 
 mul-chroma : tie.Need-mul-chroma Inv-loop μ-loop
-mul-chroma c = omega (arith, spot (c .before .before .before .before .before .before) .below, spot (c .before .before .before .before .before .before) .small)
+mul-chroma c = omega (arith, spot (c .before .before .before .before .before) .below, spot (c .before .before .before .before .before) .small)
 
 slice-write-chroma : tie.Need-slice-write-chroma Inv-loop μ-loop
-slice-write-chroma c = omega (arith, spot (c .before .before .before .before .before .before) .below, spot (c .before .before .before .before .before .before) .chroma-long, c .before .before .before .before .before .before .before .loop .inv .1 .1 .long)
+slice-write-chroma c = omega (arith, spot (c .before .before .before .before .before) .below, spot (c .before .before .before .before .before) .chroma-long, c .before .before .before .before .before .before .loop .inv .1 .1 .long)
 
 add-chroma : tie.Need-add-chroma Inv-loop μ-loop
-add-chroma c = omega (arith, spot (c .before .before .before .before .before .before) .below, spot (c .before .before .before .before .before .before) .small)
+add-chroma c = omega (arith, spot (c .before .before .before .before .before) .below, spot (c .before .before .before .before .before) .small)
 
 mul-chroma-2 : tie.Need-mul-chroma-2 Inv-loop μ-loop
-mul-chroma-2 c = omega (arith, spot (c .before .before .before .before .before .before) .below, spot (c .before .before .before .before .before .before) .small)
+mul-chroma-2 c = omega (arith, spot (c .before .before .before .before .before) .below, spot (c .before .before .before .before .before) .small)
 
 slice-write-chroma-2 : tie.Need-slice-write-chroma-2 Inv-loop μ-loop
-slice-write-chroma-2 c = simp length-set (omega (arith, spot (c .before .before .before .before .before .before) .below, spot (c .before .before .before .before .before .before) .chroma-long, c .before .before .before .before .before .before .before .loop .inv .1 .1 .long))
+slice-write-chroma-2 c = simp length-set (omega (arith, spot (c .before .before .before .before .before) .below, spot (c .before .before .before .before .before) .chroma-long, c .before .before .before .before .before .before .loop .inv .1 .1 .long))
 
 add-x : tie.Need-add-x Inv-loop μ-loop
-add-x c = omega (arith, spot (c .before .before .before .before .before .before) .below, spot (c .before .before .before .before .before .before) .small)
+add-x c = omega (arith, spot (c .before .before .before .before .before) .below, spot (c .before .before .before .before .before) .small)
 
 mul-i : tie.Need-mul-i Inv-loop μ-loop
-mul-i c = omega (arith, c .before .before .before .before .before .before .before .before .before .get-channels-count .ensures, count-few (c .before .before .before .before .before .before .before .before .before .before .before .before .before .args .s .channels))
+mul-i c = omega (arith, c .before .before .before .before .before .before .before .before .get-channels-count .ensures, count-few (c .before .before .before .before .before .before .before .before .before .before .before .before .args .s .channels))
 
 add-i : tie.Need-add-i Inv-loop μ-loop
-add-i c = omega (arith, c .before .before .before .before .before .before .loop-test .taken, spot (c .before .before .before .before .before .before) .source-small)
+add-i c = omega (arith, c .before .before .before .before .before .loop-test .taken, spot (c .before .before .before .before .before) .source-small)
 
 loop-less : tie.Need-loop-less Inv-loop μ-loop
-loop-less c = omega (arith, c .before .before .before .before .before .before .loop-test .taken, c .before .before .before .before .before .before .before .before .before .get-channels-count .ensures, count-some (c .before .before .before .before .before .before .before .before .before .before .before .before .before .args .s .channels))
+loop-less c = omega (arith, c .before .before .before .before .before .loop-test .taken, c .before .before .before .before .before .before .before .before .get-channels-count .ensures, count-some (c .before .before .before .before .before .before .before .before .before .before .before .before .args .s .channels))
 
 loop-again : tie.Need-loop-again Inv-loop μ-loop
 loop-again c =
-    let s = c .before .before .before .before .before .before .before .before .before .before .before .before .before in
+    let s = c .before .before .before .before .before .before .before .before .before .before .before .before in
     let v = s .args in
-    let g = c .before .before .before .before .before .before .before .before .before .get-channels-count .ensures in
-    let o = c .before .before .before .before .before .before .before .loop in
+    let g = c .before .before .before .before .before .before .before .before .get-channels-count .ensures in
+    let o = c .before .before .before .before .before .before .loop in
     let x = o .x in
     let t = rowPixel (v .s .channels) (v .rgba .now) in
-    let pairs = s .pre .1 .0 in
-    let place = spot (c .before .before .before .before .before .before) in
-    let p = c .before .before .before .before .before .pixel-at in
+    let place = spot (c .before .before .before .before .before) in
+    let p = c .before .before .before .before .pixel-at in
     let q = c .before .before .before .pixel-at2 in
+    let y = c .before .before .luma-words in
     let left = at-is (v .s) (s .pre .1 .1 .1 .1) g x (o .i) (o .inv .0 .0) (p .ensures) in
     let right = at-is (v .s) (s .pre .1 .1 .1 .1) g (x + 1) _ (place .second) (q .ensures) in
-    let mean = two-columns (v .s) (v .w) (v .width) t t x pairs (o .inv .0 .2) (omega (arith, place .below)) (p .result) (q .result) (c .before .mean-of-two .ensures) left right in
+    let mean = two-columns (v .s) (v .w) (v .width) t t x (s .pre .1 .0) (o .inv .0 .2) (omega (arith, place .below)) (p .result) (q .result) (c .before .mean-of-two .ensures) left right in
     let half : (x + 1) / 2 ≡ x / 2 = omega (arith, o .inv .0 .2) in (
-      (omega (arith, o .inv .0 .0), omega (arith, c .before .before .before .before .before .before .loop-test .taken), omega (arith, o .inv .0 .2)),
+      (omega (arith, o .inv .0 .0), omega (arith, c .before .before .before .before .before .loop-test .taken), omega (arith, o .inv .0 .2)),
       (
         filled-two _ (v .luma .now) x _ _ (packedLuma (v .s) (v .w) t) (o .inv .1 .0) (omega (arith, place .below, place .luma-long))
-            (luma-at (v .s) (v .w) (p .result) t x (c .before .before .before .before .luma-word .ensures) left)
-            (luma-at (v .s) (v .w) (q .result) t (x + 1) (c .before .before .luma-word2 .ensures) right),
+            (luma-at (v .s) (v .w) (p .result) t x (y .ensures .0) left)
+            (luma-at (v .s) (v .w) (q .result) t (x + 1) (y .ensures .1) right),
         filled-two _ (v .chroma .now) x _ _ (packedChroma (v .s) (v .w) (v .width) false t t) (o .inv .1 .1) (omega (arith, place .below, place .chroma-long))
             (chroma-at (v .s) (v .w) (c .before .mean-of-two .result) (v .width) false t t 0 x (omega (arith, o .inv .0 .2)) refl (c .chroma-words .ensures .0) mean)
             (chroma-at (v .s) (v .w) (c .before .mean-of-two .result) (v .width) false t t 1 (x + 1) (omega (arith, o .inv .0 .2)) half (c .chroma-words .ensures .1) mean),
@@ -177,8 +174,7 @@ same-length-2 c = c .before .loop .inv .1 .1 .long
 returns : tie.Need-returns Inv-loop μ-loop
 returns c =
     let s = c .before .before .before .before .before .before .before in
-    let v = s .args in
-    pairs-begun (v .s .subsampling) (c .before .loop .x) (c .before .loop .inv .1 .0) (s .pre .1 .0) (c .before .loop .inv .0 .2) (c .before .loop .inv .1 .1)
+    pairs-begun (s .args .s .subsampling) (c .before .loop .x) (c .before .loop .inv .1 .0) (s .pre .1 .0) (c .before .loop .inv .0 .2) (c .before .loop .inv .1 .1)
 
 pub begin-pairs-spec : {M : Type 1} → statement M
 begin-pairs-spec =
@@ -192,12 +188,11 @@ begin-pairs-spec =
     mul-loop
     add-loop
     pixel-at-requires
-    luma-word-requires
-    mul-luma
-    slice-write-luma
     add-pixel-at
     pixel-at-requires-2
-    luma-word-requires-2
+    luma-words-requires
+    mul-luma
+    slice-write-luma
     add-luma
     mul-luma-2
     slice-write-luma-2
