@@ -22,9 +22,9 @@ use Rattle.rules.specs.Channels.{isU}
 use Rattle.rules.specs.Sample.{code}
 use Rattle.rules.specs.Storage.{packed}
 use Rattle.rule_laws.specs.Codes.{Low}
-use Rattle.rule_laws.specs.Usable.{Reach, Usable}
+use Rattle.rule_laws.specs.Usable.{Usable}
 use Rattle.tolerance_laws.specs.Chroma.{chromaRow}
-use Rattle.samples.proofs.Codes.{most-small, chroma-coded, code-below}
+use Rattle.samples.proofs.Codes.{chroma-coded, code-below}
 use Rattle.samples.proofs.Words.{packed-fits}
 use Rattle.joined_codes.specs.declared.lines.Line.{Line}
 use Rattle.joined_codes.specs.declared.lines.Lines.{Lines}

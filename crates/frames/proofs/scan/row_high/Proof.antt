@@ -1,5 +1,5 @@
 -- `frames::scan::row_high` meets its contract: nothing is to be found where no sample is too large, and nothing was found at the pixels passed. Assumes nothing.
-use mathlib.Core.Path.{_≡_, sym, ap, _∙_}
+use mathlib.Core.Path.{_≡_, refl, sym, ap, _∙_}
 use mathlib.Core.Bool.{Bool}
 use Prim.Native.Nat.{ℕ, _-_, _≤_, _<_}
 use native.Mathlib.Omega.{arith}
@@ -28,11 +28,11 @@ told c = let v = c .before .before .before .before .before .before .before .args
 asked : (c : tie.After-is-found Inv-loop μ-loop) (t : Bool) → c .is-found .result ≡ t → let v = c .before .before .before .before .before .before .before .before .args in let x = c .before .before .before .before .loop .x in isFound (highAt (v .m) (v .row) x (rowPixel (v .channels) (v .part .now) x)) ≡ t
 asked c t h = sym (c .is-found .ensures ∙ ap isFound (told (c .before))) ∙ h
 
-row-most-requires : tie.Need-row-most-requires Inv-loop μ-loop
-row-most-requires c κs = c .before .pre
+rows-most-requires : tie.Need-rows-most-requires Inv-loop μ-loop
+rows-most-requires c κs = (c .before .pre, (refl, refl, refl))
 
 returns : tie.Need-returns Inv-loop μ-loop
-returns c = sym (row-nothing _ _ _ _ (row-less (c .if1 .taken) (c .before .row-most .ensures)))
+returns c = sym (row-nothing _ _ _ _ (row-less (c .if1 .taken) (c .before .rows-most .ensures .first)))
 
 loop-holds : tie.Need-loop-holds Inv-loop μ-loop
 loop-holds c = (omega arith, none-yet _)
@@ -70,7 +70,7 @@ row-high-spec =
     (tie.spec
     Inv-loop
     μ-loop
-    row-most-requires
+    rows-most-requires
     returns
     loop-holds
     row-pixel-requires

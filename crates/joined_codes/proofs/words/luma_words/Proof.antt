@@ -1,6 +1,6 @@
 -- `joined_codes::words::luma_words` meets its contract. Assumes nothing.
 use borrow.Author.Needs.{needs}
-use mathlib.Core.Path.{_≡_, ap, _∙_}
+use mathlib.Core.Path.{_≡_, _∙_}
 use lib.IntN.{natAbs}
 use Rattle.joined_codes.specs.Joined.{beside, lineSum}
 use Rattle.joined_codes.proofs.Stores.{below-line, luma-below, luma-steady, luma-halves, not-negative, first-word, second-word, storable}
