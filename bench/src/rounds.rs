@@ -4,7 +4,7 @@ use crate::stage::{Candidate, Stage, CANDIDATES};
 use std::time::Duration;
 
 pub const LEAST_ROUNDS: usize = 15;
-const LEAST_TIME: Duration = Duration::from_secs(3);
+const LEAST_TIME: Duration = Duration::from_secs(8);
 
 pub struct Times([Duration; CANDIDATES.len()]);
 
