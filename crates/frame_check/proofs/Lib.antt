@@ -1,9 +1,4 @@
-pub mod Limits
-pub mod Samples
-pub mod Rows
 pub mod Walked
 pub mod Parts
-pub mod Pairs
-pub mod Quads
 pub mod Unique
 pub mod Joined

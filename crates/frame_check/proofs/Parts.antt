@@ -18,7 +18,7 @@ use Rattle.samples.specs.Tiles.{leftOf, wideAt, topOf, twoAt, tiles}
 use Rattle.samples.proofs.Tiles.{block-tiles, left-below, wide-below}
 use Rattle.frames.specs.Rows.{Rows, rowPixel, Shows}
 use Rattle.frames.proofs.Places.{part-shows}
-use Rattle.frame_check.specs.Samples.{pixelRight, blockRight, elementRight, secondOf}
+use Rattle.sample_check.specs.Samples.{pixelRight, blockRight, elementRight, secondOf}
 
 -- n elements from row × stride on lie in a buffer whose bytes a usize counts
 pub record Part (long stride row n : ℕ) : Type 0 where
@@ -64,11 +64,6 @@ tiles-same true true t t′ l l′ x p q r o = λ i. p i ∷ q refl i ∷ r refl
 -- the second row, where there is one
 second : (two : Bool) (t : ℕ) {u : ℕ} → u ≡ secondOf two t → two ≡ true → u ≡ t + 1
 second two t e h = e ∙ ap (λ (b : Bool). secondOf b t) h
-
--- lies in the picture
-pub second-below : (two : Bool) (t height : ℕ) {u : ℕ} → u ≡ secondOf two t → t < height → (two ≡ true → t + 1 < height) → u < height
-second-below true t height e h g = omega (arith, g refl)
-second-below false t height e h g = omega arith
 
 module _ (s : Settings) (k : Named) (width height : ℕ) (px : Picture) (t u : ℕ) (two : Bool) (top low : List ℕ)
     (upper : Shows (s .channels) top px t width) (lower : Shows (s .channels) low px u width) where

@@ -1,13 +1,13 @@
 -- What a walk has passed, one step at a time, for any test of a plane's samples. Assumes nothing.
 use mathlib.Core.Path.{_≡_, subst}
-use mathlib.Core.Bool.{Bool, true, false}
-use Prim.Native.Nat.{ℕ, _+_, _*_, _≤_, _<_}
+use mathlib.Core.Bool.{true, false}
+use Prim.Native.Nat.{ℕ, _+_, _≤_, _<_}
 use native.Mathlib.Omega.{arith}
 use borrow.Author.Count.{below-more}
 use Rattle.rules.specs.Check.{Test, Clean, FirstWrong}
 use Rattle.frame_check.specs.declared.walk.Found.{Found}
 use Rattle.frame_check.specs.declared.walk.Found.the-variants.{Nothing, At}
-use Rattle.frame_check.specs.Walks.{Finds, Passed}
+use Rattle.frame_check.specs.Walks.{Finds}
 
 -- the first n samples of a row are right
 pub record CleanRow (t : Test) (row n : ℕ) : Type 0 where
@@ -33,19 +33,6 @@ module _ {t : Test} where
 
     pub first-wrong : {h row e : ℕ} → row < h → e < wide → Clean t wide row → CleanRow t row e → t row e ≡ false → FirstWrong t wide h row e
     first-wrong b i k r w = record { below = b; inside = i; wrong = w; above = k; before = r .clean }
-
--- ---- how far a row is right
-module _ {t : ℕ → Bool} {wide : ℕ} where
-  pub passed-none : Passed t wide 0
-  passed-none = record { most = omega arith; right = λ e h. absurd (omega arith) }
-
-  pub passed-more : {n : ℕ} → n < wide → Passed t wide n → t n ≡ true → Passed t wide (n + 1)
-  passed-more {n} h p r = record { most = omega arith; right = below-more (λ (e : ℕ). t e ≡ true) n (p .right) r }
-
-  pub passed-pair : (pair : ℕ) → 2 * pair + 1 < wide → Passed t wide (2 * pair) → t (2 * pair) ≡ true → t (2 * pair + 1) ≡ true → Passed t wide (2 * (pair + 1))
-  passed-pair pair h p r q =
-      let e : 2 * pair + 1 + 1 ≡ 2 * (pair + 1) = omega arith in
-      subst (Passed t wide) e (passed-more h (passed-more (omega arith) p r) q)
 
 -- ---- what a walk found
 module _ {t : Test} {wide h : ℕ} {r : Found} where

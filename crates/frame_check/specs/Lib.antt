@@ -1,4 +1,1 @@
-pub mod Judging
-pub mod Samples
-pub mod Quads
 pub mod Walks

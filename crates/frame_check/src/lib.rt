@@ -15,12 +15,6 @@ ghost use Rattle.rule_laws.specs.Usable.{Reach};
 ghost use Rattle.frames.specs.Rows.{Rows};
 ghost use Rattle.frames.specs.Tests.{Sized};
 
-mod formed;
-mod judge;
-mod passed;
-mod quad;
-mod row;
-mod sample;
 mod walk;
 
 use frames::refusals;
@@ -33,6 +27,7 @@ use rules::Refusal;
 use rules::Settings;
 use rules::Settled;
 use rules::Verdict;
+use sample_check::judge;
 use settle::settle;
 use walk::Found;
 use yuv_support::matrices;

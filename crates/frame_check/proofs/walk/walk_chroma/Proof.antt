@@ -14,9 +14,10 @@ use Rattle.rules.specs.Check.{Clean, chromaTest}
 use Rattle.samples.proofs.Tiles.{height-small, top-below, two-below}
 use Rattle.frames.specs.Rows.{rowPixel}
 use Rattle.frames.proofs.Places.{row-small}
-use Rattle.frame_check.specs.Samples.{elementRight, secondOf}
+use Rattle.sample_check.specs.Samples.{elementRight, secondOf}
+use Rattle.sample_check.proofs.Rows.{second-below}
 use Rattle.frame_check.proofs.Walked.{CleanRow, row-more, clean-none, clean-more, clean-all, first-wrong}
-use Rattle.frame_check.proofs.Parts.{Part, part-of, part, part-long, second-below, chroma-shown}
+use Rattle.frame_check.proofs.Parts.{Part, part-of, part, part-long, chroma-shown}
 use Rattle.frame_check.proofs.walk.walk_chroma.Statement.{statement}
 use Rattle.frame_check.proofs.walk.walk_chroma.Tie as tie
 

@@ -11,7 +11,7 @@ use Rattle.rules.specs.Channels.{count, picture}
 use Rattle.rules.specs.Check.{Clean, lumaTest}
 use Rattle.frames.specs.Rows.{rowPixel}
 use Rattle.frames.proofs.Places.{row-small}
-use Rattle.frame_check.specs.Samples.{pixelRight}
+use Rattle.sample_check.specs.Samples.{pixelRight}
 use Rattle.frame_check.proofs.Walked.{CleanRow, row-more, clean-none, clean-more, clean-all, first-wrong}
 use Rattle.frame_check.proofs.Parts.{Part, part-of, part, part-long, luma-shown}
 use Rattle.frame_check.proofs.walk.walk_luma.Statement.{statement}

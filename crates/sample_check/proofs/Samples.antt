@@ -1,0 +1,71 @@
+-- The tests by limits are the tests of the rules. Assumes nothing.
+use mathlib.Core.Path.{_≡_, refl, sym, ap, _∙_}
+use mathlib.Core.Bool.{Bool, true, false, _&&_}
+use mathlib.Core.List.{List, [], _∷_}
+use Prim.Native.Nat.{ℕ, _-_, _*_}
+use lib.ListN.{length}
+use Rattle.rules.specs.declared.Settings.{Settings}
+use Rattle.rules.specs.declared.Named.{Named}
+use Rattle.rules.specs.declared.Pixel.{Pixel}
+use Rattle.rules.specs.Ranges.{most, biasUV, rangeUV}
+use Rattle.rules.specs.Storage.{stored}
+use Rattle.rules.specs.Fractions.{Fraction, exactLuma, halves}
+use Rattle.rules.specs.Check.{right}
+use Rattle.tolerance_laws.specs.Chroma.{ownK, exactChroma}
+use Rattle.samples.specs.Tiles.{tiles}
+use Rattle.fractions.specs.declared.Exact.{Exact}
+use Rattle.fractions.specs.declared.Sums.{Sums}
+use Rattle.fractions.specs.Exact.{Exactly}
+use Rattle.fractions.specs.Bound.{boundOf}
+use Rattle.fractions.specs.Sums.{sumsOf, lumaBy, ownSum, chromaBy}
+use Rattle.fractions.proofs.Passes.{judged}
+use Rattle.fractions.proofs.Values.{luma-of, chroma-of}
+use Rattle.sample_check.specs.declared.judge.Limit.{Limit}
+use Rattle.sample_check.specs.declared.judge.Judge.{Judge}
+use Rattle.sample_check.specs.Judging.{Judging}
+use Rattle.sample_check.specs.Samples.{isFormed, nearBy, rightBy, pixelRight, blockRight, ownLimit}
+use Rattle.sample_check.proofs.Limits.{own-sized}
+
+-- a word is right by the fraction that an exact value stands for
+by-fraction : (s : Settings) (h v : ℕ) {bound : ℕ} {x : Exact} {g f : Fraction} → Exactly g x → g ≡ f →
+    bound ≡ boundOf (s .precision) (most (s .depth)) h (f .under) → rightBy s bound x v ≡ right s h f v
+by-fraction s h v e q o =
+    ap (λ (b : Bool). isFormed s v && b)
+    (judged (s .precision) (most (s .depth)) h (stored (s .packing) (s .endianness) (s .depth) v) e q o)
+
+-- the divisor of Cb or Cr
+pub chroma-under : (u : Bool) (k : Named) (m bias range : ℕ) (b : List Pixel) → 2 * (10000 - ownK u k) * length b * m ≡ exactChroma u k m bias range b .under
+chroma-under true k m bias range b = refl
+chroma-under false k m bias range b = refl
+
+-- the test of a word by cases: malformed, or formed with this code
+module _ (s : Settings) (bound : ℕ) (x : Exact) (v : ℕ) where
+  pub malformed : isFormed s v ≡ false → false ≡ rightBy s bound x v
+  malformed e = sym (ap (λ (b : Bool). b && nearBy s bound x v) e)
+
+  pub formed : isFormed s v ≡ true → nearBy s bound x v ≡ rightBy s bound x v
+  formed e = sym (ap (λ (b : Bool). b && nearBy s bound x v) e)
+
+module _ (s : Settings) (k : Named) (j : Judge) (h : Judging s k j) (v : ℕ) where
+  pub luma-judged : (p : Pixel) {x : Exact} → Exactly (lumaBy k (j .ranges .«bias_y») (j .ranges .«range_y») (j .luma .under) (sumsOf (p ∷ []))) x →
+      rightBy s (j .luma .bound) x v ≡ pixelRight s k p v
+  luma-judged p e =
+      let m = most (s .depth) in
+      by-fraction s 1 v e
+      (luma-of k m (j .ranges .«bias_y») (j .ranges .«range_y») (p ∷ []) (h .luma .divisor)
+      ∙ (λ i. exactLuma k m (h .ranges i .«bias_y») (h .ranges i .«range_y») (p ∷ [])))
+      (h .luma .bound)
+
+  pub chroma-judged : (u a b : Bool) (t l : ℕ → Pixel) (x : ℕ) {q : Limit} {z : Sums} {e : Exact} →
+      q ≡ ownLimit j u a b → z ≡ sumsOf (tiles a b t l x) →
+      Exactly (chromaBy k (j .ranges .«bias_uv») (j .ranges .«range_uv») (q .under) (ownSum u z) z) e →
+      rightBy s (q .bound) e v ≡ blockRight s k u (tiles a b t l x) v
+  unfolding blockRight
+  chroma-judged u a b t l x {q} f g e =
+      let m = most (s .depth) in
+      let n = own-sized h u a b t l x in
+      let w = tiles a b t l x in
+      by-fraction s (halves w) v e
+      (chroma-of u k m (j .ranges .«bias_uv») (j .ranges .«range_uv») w g (ap (λ (y : Limit). y .under) f ∙ n .divisor)
+      ∙ (λ i. exactChroma u k m (h .ranges i .«bias_uv») (h .ranges i .«range_uv») w))
+      (ap (λ (y : Limit). y .bound) f ∙ n .bound ∙ ap (boundOf (s .precision) m (halves w)) (chroma-under u k m (biasUV (s .depth)) (rangeUV (s .range) (s .depth)) w))

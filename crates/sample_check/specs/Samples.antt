@@ -1,0 +1,86 @@
+-- The test of one sample by pixels, by blocks and by rows.
+-- Definitions and statements only.
+use Prim.Native.Nat.{ℕ, _+_, _/_, _<_}
+use mathlib.Core.Path.{_≡_}
+use mathlib.Core.Bool.{Bool, true, false, _&&_, cond}
+use mathlib.Core.List.{List, [], _∷_}
+use lib.Dec.{leb}
+use lib.ListN.{length, getD}
+use Rattle.rules.specs.declared.Settings.{Settings}
+use Rattle.rules.specs.declared.Named.{Named}
+use Rattle.rules.specs.declared.Pixel.{Pixel}
+use Rattle.rules.specs.declared.YuvChromaSubsampling.{YuvChromaSubsampling}
+use Rattle.rules.specs.declared.YuvSourceChannels.{YuvSourceChannels}
+use Rattle.rules.specs.Ranges.{most, biasY, biasUV, rangeY, rangeUV}
+use Rattle.rules.specs.Channels.{isU}
+use Rattle.rules.specs.Storage.{wellFormed, stored}
+use Rattle.rules.specs.Fractions.{exactLuma, halves}
+use Rattle.rules.specs.Check.{right}
+use Rattle.tolerance_laws.specs.Chroma.{exactChroma}
+use Rattle.samples.specs.Tiles.{leftOf, wideAt, tiles}
+use Rattle.fractions.specs.declared.Exact.{Exact}
+use Rattle.fractions.specs.Bound.{distance}
+use Rattle.frames.specs.Rows.{rowPixel}
+use Rattle.sample_check.specs.declared.judge.Limit.{Limit}
+use Rattle.sample_check.specs.declared.judge.Limits.{Limits}
+use Rattle.sample_check.specs.declared.judge.Judge.{Judge}
+use Rattle.sample_check.specs.declared.sample.Tile.{Tile}
+
+-- a word is well formed
+abbrev pub isFormed : Settings → ℕ → Bool
+isFormed s v = wellFormed (s .packing) (s .endianness) (s .depth) v
+
+-- all words of a row part are
+pub record AllFormed (s : Settings) (part : List ℕ) : Type 0 where
+  pub each : (e : ℕ) → e < length part → isFormed s (getD part e 0) ≡ true
+
+-- the code of a word is within a bound of an exact value
+abbrev pub nearBy : Settings → ℕ → Exact → ℕ → Bool
+nearBy s bound x v = leb (distance x (stored (s .packing) (s .endianness) (s .depth) v)) bound
+
+-- both
+abbrev pub rightBy : Settings → ℕ → Exact → ℕ → Bool
+rightBy s bound x v = isFormed s v && nearBy s bound x v
+
+-- a word is right as the luma of a pixel
+abbrev pub pixelRight : Settings → Named → Pixel → ℕ → Bool
+pixelRight s k p v = right s 1 (exactLuma k (most (s .depth)) (biasY (s .range) (s .depth)) (rangeY (s .range) (s .depth)) (p ∷ [])) v
+
+-- a word is right as the Cb of a block where u is true, as its Cr where it is false
+unfoldable pub blockRight : Settings → Named → Bool → List Pixel → ℕ → Bool
+blockRight s k u b v = right s (halves b) (exactChroma u k (most (s .depth)) (biasUV (s .depth)) (rangeUV (s .range) (s .depth)) b) v
+
+-- ---- by cases of a block
+
+-- the limit of a block by whether it has two columns, and two rows
+abbrev pub limitFor : Limits → Bool → Bool → Limit
+limitFor l false false = l .one
+limitFor l true false = l .two
+limitFor l false true = l .two
+limitFor l true true = l .four
+
+abbrev pub ownLimit : Judge → Bool → Bool → Bool → Limit
+ownLimit j u wide two = cond u (limitFor (j .cb) wide two) (limitFor (j .cr) wide two)
+
+-- a block's columns lie in a row
+pub record Fitting (width : ℕ) (t : Tile) : Type 0 where
+  pub inside : t .left < width
+  pub beside : t .wide ≡ true → t .left + 1 < width
+
+-- the pixels of a block, from two row parts
+abbrev pub tiled : YuvSourceChannels → List ℕ → List ℕ → Tile → List Pixel
+tiled c top low t = tiles (t .wide) (t .two) (rowPixel c top) (rowPixel c low) (t .left)
+
+-- the block of a pair, by whether its rows are two
+abbrev pub tileOf : YuvChromaSubsampling → ℕ → Bool → ℕ → Tile
+tileOf s width two pair = record { left = leftOf s pair; wide = wideAt s width (leftOf s pair); two = two }
+
+-- an element of a chroma row is right, by the pixels of its two source rows
+unfoldable pub elementRight : Settings → Named → ℕ → Bool → (ℕ → Pixel) → (ℕ → Pixel) → ℕ → ℕ → Bool
+elementRight s k width two top low e v =
+    let x = leftOf (s .subsampling) (e / 2) in
+    blockRight s k (isU (s .order) e) (tiles (wideAt (s .subsampling) width x) two top low x) v
+
+-- the second column or row of a block; where there is none, the first again
+abbrev pub secondOf : Bool → ℕ → ℕ
+secondOf two first = cond two (first + 1) first
