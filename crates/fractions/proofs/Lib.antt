@@ -1,4 +1,3 @@
 pub mod Apart
-pub mod Doubled
 pub mod Passes
 pub mod Values

@@ -9,7 +9,7 @@ use Rattle.integer_laws.proofs.Differences.{is-less}
 use Rattle.integer_laws.proofs.Tests.{leb-div}
 use Rattle.tolerance_laws.proofs.Within.{within-apart}
 use Rattle.fractions.specs.declared.Exact.{Exact}
-use Rattle.fractions.specs.Exact.{fractionOf, Exactly}
+use Rattle.fractions.specs.Exact.{fractionOf}
 use Rattle.fractions.specs.Bound.{distance, boundOf}
 
 -- by an exact value
@@ -20,10 +20,10 @@ passes-within precision m h x c =
     ∙ within-apart (fractionOf x) (is-less (x .plus) (x .minus)) c precision m h
 
 -- by the fraction that an exact value stands for, with the bound worked out beforehand
-pub judged : (precision m h c : ℕ) {x : Exact} {g f : Fraction} {bound : ℕ} → Exactly g x → g ≡ f → bound ≡ boundOf precision m h (f .under) →
+pub judged : (precision m h c : ℕ) (x : Exact) {g f : Fraction} {bound : ℕ} → fractionOf x ≡ g → g ≡ f → bound ≡ boundOf precision m h (f .under) →
     leb (distance x c) bound ≡ within precision m h f c
-judged precision m h c {x} e q o =
-    let v = e .value ∙ q in
+judged precision m h c x e q o =
+    let v = e ∙ q in
     ap (leb (distance x c)) (o ∙ ap (λ (g : Fraction). boundOf precision m h (g .under)) (sym v))
     ∙ passes-within precision m h x c
     ∙ ap (λ (g : Fraction). within precision m h g c) v

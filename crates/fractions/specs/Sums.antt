@@ -1,9 +1,7 @@
 -- The exact fractions of rules by channel sums and a divisor. Definitions only.
 use Prim.Native.Nat.{ℕ, _+_, _*_, _≤_}
-use mathlib.Core.Path.{_≡_}
 use mathlib.Core.Bool.{Bool, cond}
 use mathlib.Core.List.{List}
-use lib.ListN.{length}
 use lib.IntN.{pos, _-ℤ_, _*ℤ_}
 use Rattle.rules.specs.declared.Named.{Named}
 use Rattle.rules.specs.declared.Pixel.{Pixel}
@@ -37,13 +35,6 @@ pub record UpToFour (s : Sums) : Type 0 where
   pub red≤ : s .red ≤ 262140
   pub green≤ : s .green ≤ 262140
   pub blue≤ : s .blue ≤ 262140
-
--- d has twice the pixels of b and twice its sums
-pub record Doubles (b d : List Pixel) : Type 0 where
-  pub red : reds d ≡ 2 * reds b
-  pub green : greens d ≡ 2 * greens b
-  pub blue : blues d ≡ 2 * blues b
-  pub long : length d ≡ 2 * length b
 
 -- the ranges in which no product passes 64 bits
 pub record Modest (k : Named) (bias range under : ℕ) : Type 0 where

@@ -40,8 +40,8 @@ fn lifted(x: u32, under: u64, rest: u64) -> u64
 }
 
 // Whether a and b lie at most `bound` apart: the difference that wraps where a + bound is below b is then too large.
-fn within(a: u64, b: u64, bound: u64) -> bool
-    requires { ⌜ (a ≤ 2000000000000000) × (b ≤ 2000000000000000) × (bound ≤ 60000000000000000) ⌝ }
+pub fn within(a: u64, b: u64, bound: u64) -> bool
+    requires { ⌜ (a ≤ 60000000000000000) × (b ≤ 60000000000000000) × (bound ≤ 4000000000000000000) ⌝ }
     ensures { λ r. ⌜ r ≡ leb (apart a b) bound ⌝ }
 {
     wrapping_sub_u64(a + bound, b) <= 2 * bound

@@ -1,3 +1,5 @@
-pub mod Quads
-pub mod Pairs
 pub mod Prefixes
+pub mod Times
+pub mod Gauged
+pub mod Pairs
+pub mod Runs

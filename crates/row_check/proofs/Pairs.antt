@@ -1,6 +1,6 @@
--- The whole pairs of a chroma row: where they lie, and their elements. Assumes nothing.
+-- The whole pairs of a chroma row: where they lie, their elements, and the test of both. Assumes nothing.
 use mathlib.Core.Path.{_≡_, refl, sym, ap, _∙_, subst}
-use mathlib.Core.Bool.{Bool, true, false}
+use mathlib.Core.Bool.{Bool, true, false, _&&_}
 use mathlib.Core.List.{List}
 use Prim.Native.Nat.{ℕ, _+_, _*_, _/_, _%_, _≤_, _<_}
 use native.Mathlib.Omega.{arith}
@@ -14,13 +14,14 @@ use Rattle.rules.specs.declared.YuvChromaSubsampling.{YuvChromaSubsampling}
 use Rattle.rules.specs.declared.YuvChromaSubsampling.the-variants.{Yuv420, Yuv422, Yuv444}
 use Rattle.rules.specs.Channels.{uAt, vAt, isU}
 use Rattle.rules.specs.Blocks.{chromaWidth}
+use Rattle.integer_laws.proofs.Tests.{both}
 use Rattle.samples.specs.Tiles.{paired, leftOf, wideAt}
-use Rattle.samples.proofs.Tiles.{wide-below}
+use Rattle.fractions.specs.declared.Sums.{Sums}
 use Rattle.frames.specs.Rows.{rowPixel}
-use Rattle.sample_check.specs.declared.sample.Tile.{Tile}
-use Rattle.sample_check.specs.Samples.{blockRight, Fitting, tiled, tileOf, elementRight}
-use Rattle.row_check.specs.Quads.{wholePairs, PairRight}
+use Rattle.sample_check.specs.Samples.{blockRight, tiled, tileOf, elementRight}
 use Rattle.sample_check.proofs.Rows.{element-is}
+use Rattle.row_check.specs.declared.chroma.Ruler.{Ruler}
+use Rattle.row_check.specs.Pairing.{wholePairs, uNear, vNear, pairNear}
 
 -- ---- where they lie
 
@@ -29,28 +30,30 @@ whole-small Yuv420 width = omega arith
 whole-small Yuv422 width = omega arith
 whole-small Yuv444 width = omega arith
 
-pub whole-inside : (s : YuvChromaSubsampling) (width pair : ℕ) → pair < wholePairs s width → 2 * pair + 1 < chromaWidth s width
-whole-inside Yuv420 width pair h = omega arith
-whole-inside Yuv422 width pair h = omega arith
-whole-inside Yuv444 width pair h = omega arith
+pub whole-inside : (s : YuvChromaSubsampling) (width : ℕ) → 2 * wholePairs s width ≤ chromaWidth s width
+whole-inside Yuv420 width = omega arith
+whole-inside Yuv422 width = omega arith
+whole-inside Yuv444 width = omega arith
 
-whole-left : (s : YuvChromaSubsampling) (width pair : ℕ) → pair < wholePairs s width → leftOf s pair < width
-whole-left Yuv420 width pair h = omega arith
-whole-left Yuv422 width pair h = omega arith
-whole-left Yuv444 width pair h = h
-
-whole-wide : (s : YuvChromaSubsampling) (width pair : ℕ) → pair < wholePairs s width → paired s ≡ wideAt s width (leftOf s pair)
+pub whole-wide : (s : YuvChromaSubsampling) (width pair : ℕ) → pair < wholePairs s width → paired s ≡ wideAt s width (leftOf s pair)
 whole-wide Yuv420 width pair h = sym (lt-ltb (2 * pair + 1) width (omega arith))
 whole-wide Yuv422 width pair h = sym (lt-ltb (2 * pair + 1) width (omega arith))
 whole-wide Yuv444 width pair h = refl
 
-module _ (s : YuvChromaSubsampling) (width : ℕ) (two : Bool) (pair : ℕ) (h : pair < wholePairs s width) where
-  -- the block of a pair, as it is worked out
-  pub whole-tile : {x : ℕ} {w : Bool} → x ≡ leftOf s pair → w ≡ paired s → _≡_ {A = Tile} (record { left = x; wide = w; two = two }) (tileOf s width two pair)
-  whole-tile e f = λ i. record { left = e i; wide = (f ∙ whole-wide s width pair h) i; two = two }
+-- ---- the test of both
 
-  pub whole-fits : Fitting width (tileOf s width two pair)
-  whole-fits = record { inside = whole-left s width pair h; beside = wide-below s width (leftOf s pair) }
+module _ (m : Ruler) (z : Sums) (chroma : List ℕ) (pair : ℕ) where
+  pub u-fails : uNear m z chroma pair ≡ false → false ≡ pairNear m z chroma pair
+  unfolding pairNear
+  u-fails e = sym (ap (λ (b : Bool). b && vNear m z chroma pair) e)
+
+  pub v-decides : {r : Bool} → uNear m z chroma pair ≡ true → r ≡ vNear m z chroma pair → r ≡ pairNear m z chroma pair
+  unfolding pairNear
+  v-decides e h = h ∙ sym (ap (λ (b : Bool). b && vNear m z chroma pair) e)
+
+  pub both-near : pairNear m z chroma pair ≡ true → (uNear m z chroma pair ≡ true) × (vNear m z chroma pair ≡ true)
+  unfolding pairNear
+  both-near e = both (uNear m z chroma pair) (vNear m z chroma pair) e
 
 -- ---- their elements
 
@@ -66,13 +69,17 @@ in-order VU pair R u v = (
 )
 
 module _ (s : Settings) (k : Named) (width : ℕ) (two : Bool) (top low chroma : List ℕ) (pair : ℕ) where
-  pub elements : {t : Tile} → t ≡ tileOf (s .subsampling) width two pair → PairRight s k top low t chroma pair →
+  -- a word of a pair is right as its U or its V
+  abbrev pub WordRight : Bool → ℕ → Type 0
+  WordRight u n = blockRight s k u (tiled (s .channels) top low (tileOf (s .subsampling) width two pair)) (getD chroma n 0) ≡ true
+
+  pub elements : WordRight true (2 * pair + uAt (s .order)) → WordRight false (2 * pair + vAt (s .order)) →
       (elementRight s k width two (rowPixel (s .channels) top) (rowPixel (s .channels) low) (2 * pair) (getD chroma (2 * pair) 0) ≡ true)
       × (elementRight s k width two (rowPixel (s .channels) top) (rowPixel (s .channels) low) (2 * pair + 1) (getD chroma (2 * pair + 1) 0) ≡ true)
-  elements {t} e h =
-      let q = in-order (s .order) pair (λ b n. blockRight s k b (tiled (s .channels) top low t) (getD chroma n 0) ≡ true) (h .u) (h .v) in
+  elements u v =
+      let q = in-order (s .order) pair WordRight u v in
       let first : pair ≡ 2 * pair / 2 = omega arith in
       let second : pair ≡ (2 * pair + 1) / 2 = omega arith in (
-        sym (element-is s k width two top low (2 * pair) (getD chroma (2 * pair) 0) refl (e ∙ ap (tileOf (s .subsampling) width two) first) (sym (q .0))),
-        sym (element-is s k width two top low (2 * pair + 1) (getD chroma (2 * pair + 1) 0) refl (e ∙ ap (tileOf (s .subsampling) width two) second) (sym (q .1))),
+        sym (element-is s k width two top low (2 * pair) (getD chroma (2 * pair) 0) refl (ap (tileOf (s .subsampling) width two) first) (sym (q .0))),
+        sym (element-is s k width two top low (2 * pair + 1) (getD chroma (2 * pair + 1) 0) refl (ap (tileOf (s .subsampling) width two) second) (sym (q .1))),
       )

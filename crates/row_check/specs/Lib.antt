@@ -1,2 +1,3 @@
-pub mod Quads
+pub mod Gauges
+pub mod Pairing
 pub mod Prefixes

@@ -1,6 +1,5 @@
 // How far a row is right by a quick test: as a rule to its end, and no further than the first wrong sample.
 ghost use mathlib.Core.Path.{_≡_};
-ghost use mathlib.Core.Bool.{false};
 ghost use Prim.Native.Nat.{_*_, _≤_};
 ghost use lib.ListN.{length, getD};
 ghost use Rattle.rules.specs.Channels.{count};
@@ -9,18 +8,31 @@ ghost use Rattle.rule_laws.specs.Usable.{Reach};
 ghost use Rattle.frames.specs.Rows.{rowPixel};
 ghost use Rattle.sample_check.specs.Judging.{Judging};
 ghost use Rattle.sample_check.specs.Samples.{pixelRight, elementRight};
-ghost use Rattle.row_check.specs.Quads.{wholePairs};
+ghost use Rattle.row_check.specs.Gauges.{timesOf};
+ghost use Rattle.row_check.specs.Pairing.{rulerOf, Sound};
 ghost use Rattle.row_check.specs.Prefixes.{Passed};
+use crate::chroma;
+use crate::chroma::Ruler;
 use crate::formed;
-use crate::quad;
-use frames::channels;
+use crate::gauge;
+use crate::luma;
 use rules::Named;
 use rules::Settings;
-use rules::YuvChromaSubsampling;
+use rules::YuvEndianness;
 use sample_check::judge::Judge;
 use sample_check::sample;
 use sample_check::sample::Tile;
 use samples::blocks;
+use samples::storage;
+
+// How many times its code a well-formed word is, its bytes in order.
+fn times_of(s: Settings) -> u16
+    requires { ⌜ Reach s ⌝ }
+    ensures { λ r. ⌜ (r ≡ timesOf s) × (r ≤ 64) ⌝ }
+{
+    let packing = s.packing;
+    storage::word(packing, YuvEndianness::LittleEndian, s.depth, 1)
+}
 
 // The samples of a luma row.
 pub fn luma_passed(
@@ -39,29 +51,42 @@ pub fn luma_passed(
         return 0;
     }
     let channels = s.channels;
-    let mut e = 0;
-    while e < width {
-        let p = channels::row_pixel(channels, line, width, e);
-        if !sample::luma_near(s, k, j, p, luma[e]) {
-            return e;
-        }
-        e += 1;
-    }
-    e
+    let endianness = s.endianness;
+    let ranges = j.ranges;
+    let limit = j.luma;
+    let times = times_of(s);
+    let h = gauge::shares_of(k, ranges.range_y, times);
+    let g = gauge::gauge_of(ranges.bias_y, limit, times);
+    luma::luma_run(channels, endianness, h, g, width, line, luma)
 }
 
-// How many pairs there are, but for an odd last one.
-fn whole_pairs(subsampling: YuvChromaSubsampling, width: usize) -> usize
-    ensures { λ r. ⌜ r ≡ wholePairs subsampling width ⌝ }
+// What the pairs of a chroma row are compared by, by whether their blocks have two rows.
+fn ruler_of(s: Settings, k: Named, j: Judge, two: bool) -> Ruler
+    requires { ⌜ (Reach s) × (Judging s k j) ⌝ }
+    ensures { λ r. ⌜ (r ≡ rulerOf s k j two) × Sound r ⌝ }
 {
-    match subsampling {
-        YuvChromaSubsampling::Yuv420 => width / 2,
-        YuvChromaSubsampling::Yuv422 => width / 2,
-        YuvChromaSubsampling::Yuv444 => width,
+    let channels = s.channels;
+    let endianness = s.endianness;
+    let order = s.order;
+    let subsampling = s.subsampling;
+    let ranges = j.ranges;
+    let times = times_of(s);
+    let wide = blocks::paired(subsampling);
+    let t = Tile { left: 0, wide, two };
+    let shares = gauge::shares_of(k, ranges.range_uv, times);
+    let cb = gauge::gauge_of(ranges.bias_uv, sample::own_limit(j, true, t), times);
+    let cr = gauge::gauge_of(ranges.bias_uv, sample::own_limit(j, false, t), times);
+    Ruler {
+        channels,
+        endianness,
+        order,
+        shares,
+        cb,
+        cr,
     }
 }
 
-// The samples of a chroma row, a pair at a time, with the limits chosen beforehand; an odd last pair is left.
+// The samples of a chroma row, a pair at a time; an odd last pair is left.
 pub fn chroma_passed(
     s: Settings,
     k: Named,
@@ -75,27 +100,12 @@ pub fn chroma_passed(
     requires { ⌜ (Reach s) × (Judging s k j) ⌝ }
     requires { ⌜ (width ≤ 16384) × (chromaWidth (s .subsampling) width ≤ length (now chroma)) ⌝ }
     requires { ⌜ (width * count (s .channels) ≤ length (now top)) × (width * count (s .channels) ≤ length (now low)) ⌝ }
-    requires { ⌜ (two ≡ false → now low ≡ now top) ⌝ }
     ensures { λ r. ⌜ Passed (λ e. elementRight s k width two (rowPixel (s .channels) (now (top .entry))) (rowPixel (s .channels) (now (low .entry))) e (getD (now (chroma .entry)) e 0)) (chromaWidth (s .subsampling) width) r ⌝ }
 {
     if !formed::all_formed(s, chroma) {
         return 0;
     }
     let subsampling = s.subsampling;
-    let wide = blocks::paired(subsampling);
-    let pairs = whole_pairs(subsampling, width);
-    let cb_limits = j.cb;
-    let cr_limits = j.cr;
-    let cb = quad::quad_limit(cb_limits, wide, two);
-    let cr = quad::quad_limit(cr_limits, wide, two);
-    let mut pair = 0;
-    while pair < pairs {
-        let left = blocks::left(subsampling, pair);
-        let t = Tile { left, wide, two };
-        if !quad::pair_right(s, k, j, cb, cr, width, t, top, low, chroma, pair) {
-            return 2 * pair;
-        }
-        pair += 1;
-    }
-    2 * pair
+    let m = ruler_of(s, k, j, two);
+    2 * chroma::chroma_run(subsampling, m, width, two, top, low, chroma)
 }

@@ -15,7 +15,7 @@ use Rattle.tolerance_laws.specs.Chroma.{ownK, exactChroma}
 use Rattle.samples.specs.Tiles.{tiles}
 use Rattle.fractions.specs.declared.Exact.{Exact}
 use Rattle.fractions.specs.declared.Sums.{Sums}
-use Rattle.fractions.specs.Exact.{Exactly}
+use Rattle.fractions.specs.Exact.{fractionOf}
 use Rattle.fractions.specs.Bound.{boundOf}
 use Rattle.fractions.specs.Sums.{sumsOf, lumaBy, ownSum, chromaBy}
 use Rattle.fractions.proofs.Passes.{judged}
@@ -27,11 +27,11 @@ use Rattle.sample_check.specs.Samples.{isFormed, nearBy, rightBy, pixelR
 use Rattle.sample_check.proofs.Limits.{own-sized}
 
 -- a word is right by the fraction that an exact value stands for
-by-fraction : (s : Settings) (h v : ℕ) {bound : ℕ} {x : Exact} {g f : Fraction} → Exactly g x → g ≡ f →
+by-fraction : (s : Settings) (h v : ℕ) {bound : ℕ} (x : Exact) {g f : Fraction} → fractionOf x ≡ g → g ≡ f →
     bound ≡ boundOf (s .precision) (most (s .depth)) h (f .under) → rightBy s bound x v ≡ right s h f v
-by-fraction s h v e q o =
+by-fraction s h v x e q o =
     ap (λ (b : Bool). isFormed s v && b)
-    (judged (s .precision) (most (s .depth)) h (stored (s .packing) (s .endianness) (s .depth) v) e q o)
+    (judged (s .precision) (most (s .depth)) h (stored (s .packing) (s .endianness) (s .depth) v) x e q o)
 
 -- the divisor of Cb or Cr
 pub chroma-under : (u : Bool) (k : Named) (m bias range : ℕ) (b : List Pixel) → 2 * (10000 - ownK u k) * length b * m ≡ exactChroma u k m bias range b .under
@@ -47,25 +47,25 @@ module _ (s : Settings) (bound : ℕ) (x : Exact) (v : ℕ) where
   formed e = sym (ap (λ (b : Bool). b && nearBy s bound x v) e)
 
 module _ (s : Settings) (k : Named) (j : Judge) (h : Judging s k j) (v : ℕ) where
-  pub luma-judged : (p : Pixel) {x : Exact} → Exactly (lumaBy k (j .ranges .«bias_y») (j .ranges .«range_y») (j .luma .under) (sumsOf (p ∷ []))) x →
+  pub luma-judged : (p : Pixel) (x : Exact) → fractionOf x ≡ lumaBy k (j .ranges .«bias_y») (j .ranges .«range_y») (j .luma .under) (sumsOf (p ∷ [])) →
       rightBy s (j .luma .bound) x v ≡ pixelRight s k p v
-  luma-judged p e =
+  luma-judged p x e =
       let m = most (s .depth) in
-      by-fraction s 1 v e
+      by-fraction s 1 v x e
       (luma-of k m (j .ranges .«bias_y») (j .ranges .«range_y») (p ∷ []) (h .luma .divisor)
       ∙ (λ i. exactLuma k m (h .ranges i .«bias_y») (h .ranges i .«range_y») (p ∷ [])))
       (h .luma .bound)
 
-  pub chroma-judged : (u a b : Bool) (t l : ℕ → Pixel) (x : ℕ) {q : Limit} {z : Sums} {e : Exact} →
+  pub chroma-judged : (u a b : Bool) (t l : ℕ → Pixel) (x : ℕ) {q : Limit} {z : Sums} (e : Exact) →
       q ≡ ownLimit j u a b → z ≡ sumsOf (tiles a b t l x) →
-      Exactly (chromaBy k (j .ranges .«bias_uv») (j .ranges .«range_uv») (q .under) (ownSum u z) z) e →
+      fractionOf e ≡ chromaBy k (j .ranges .«bias_uv») (j .ranges .«range_uv») (q .under) (ownSum u z) z →
       rightBy s (q .bound) e v ≡ blockRight s k u (tiles a b t l x) v
   unfolding blockRight
-  chroma-judged u a b t l x {q} f g e =
+  chroma-judged u a b t l x {q} y f g e =
       let m = most (s .depth) in
       let n = own-sized h u a b t l x in
       let w = tiles a b t l x in
-      by-fraction s (halves w) v e
-      (chroma-of u k m (j .ranges .«bias_uv») (j .ranges .«range_uv») w g (ap (λ (y : Limit). y .under) f ∙ n .divisor)
+      by-fraction s (halves w) v y e
+      (chroma-of u k m (j .ranges .«bias_uv») (j .ranges .«range_uv») w g (ap (λ (o : Limit). o .under) f ∙ n .divisor)
       ∙ (λ i. exactChroma u k m (h .ranges i .«bias_uv») (h .ranges i .«range_uv») w))
-      (ap (λ (y : Limit). y .bound) f ∙ n .bound ∙ ap (boundOf (s .precision) m (halves w)) (chroma-under u k m (biasUV (s .depth)) (rangeUV (s .range) (s .depth)) w))
+      (ap (λ (o : Limit). o .bound) f ∙ n .bound ∙ ap (boundOf (s .precision) m (halves w)) (chroma-under u k m (biasUV (s .depth)) (rangeUV (s .range) (s .depth)) w))

@@ -22,7 +22,6 @@ pub record Sizing (precision m own : ℕ) (l : Limits) : Type 0 where
   pub one : Limiting precision m 1 (2 * (10000 - own) * 1 * m) (l .one)
   pub two : Limiting precision m 2 (2 * (10000 - own) * 2 * m) (l .two)
   pub four : Limiting precision m 2 (2 * (10000 - own) * 4 * m) (l .four)
-  pub repeated : Limiting precision m 1 (2 * (10000 - own) * 4 * m) (l .repeated)
 
 pub record Judging (s : Settings) (k : Named) (j : Judge) : Type 0 where
   pub whole : k .kr + k .kb ≤ 10000

@@ -16,12 +16,11 @@ pub struct Limit {
     pub bound: u64,
 }
 
-// The limits of a block of one, two and four pixels, and of one pixel that is counted four times.
+// The limits of a block of one, two and four pixels.
 pub struct Limits {
     pub one: Limit,
     pub two: Limit,
     pub four: Limit,
-    pub repeated: Limit,
 }
 
 // The ranges, and the limits of luma, Cb and Cr.
@@ -50,13 +49,7 @@ fn limits_of(precision: u32, m: u32, own: u32) -> Limits
     let one = limit_of(precision, m, 1, value::chroma_under(own, 1, m));
     let two = limit_of(precision, m, 2, value::chroma_under(own, 2, m));
     let four = limit_of(precision, m, 2, value::chroma_under(own, 4, m));
-    let repeated = limit_of(precision, m, 1, value::chroma_under(own, 4, m));
-    Limits {
-        one,
-        two,
-        four,
-        repeated,
-    }
+    Limits { one, two, four }
 }
 
 // Worked out once for the settings and a row of the table of matrices.

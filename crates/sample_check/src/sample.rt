@@ -1,6 +1,5 @@
 // The test of one sample by its exact fraction, over whole numbers.
 ghost use mathlib.Core.Path.{_≡_};
-ghost use mathlib.Core.Bool.{true};
 ghost use Prim.Native.Nat.{_+_, _*_, _<_, _≤_};
 ghost use lib.ListN.{length};
 ghost use Rattle.rules.specs.Channels.{count};
@@ -8,7 +7,7 @@ ghost use Rattle.rule_laws.specs.Usable.{Reach};
 ghost use Rattle.fractions.specs.Exact.{Small, Exactly};
 ghost use Rattle.fractions.specs.Sums.{sumsOf, ownSum, chromaBy, UpToFour, Modest};
 ghost use Rattle.sample_check.specs.Judging.{Judging};
-ghost use Rattle.sample_check.specs.Samples.{isFormed, nearBy, rightBy, pixelRight, blockRight, limitFor, ownLimit, Fitting, tiled, secondOf};
+ghost use Rattle.sample_check.specs.Samples.{nearBy, rightBy, pixelRight, blockRight, limitFor, ownLimit, Fitting, tiled, secondOf};
 use crate::judge::Judge;
 use crate::judge::Limit;
 use crate::judge::Limits;
@@ -40,7 +39,7 @@ pub fn second(two: bool, first: usize) -> usize
 }
 
 // Whether the code of a word is within a bound of an exact value.
-pub fn near_by(s: Settings, bound: u64, x: Exact, v: u16) -> bool
+fn near_by(s: Settings, bound: u64, x: Exact, v: u16) -> bool
     requires { ⌜ Reach s ⌝ }
     requires { ⌜ (Small x) × (bound ≤ 60000000000000000) ⌝ }
     ensures { λ r. ⌜ r ≡ nearBy s bound x v ⌝ }
@@ -62,19 +61,6 @@ fn right_by(s: Settings, bound: u64, x: Exact, v: u16) -> bool
         return false;
     }
     near_by(s, bound, x, v)
-}
-
-// Whether a well-formed word is right as the luma of a pixel.
-pub fn luma_near(s: Settings, k: Named, j: Judge, p: Pixel, v: u16) -> bool
-    requires { ⌜ Reach s ⌝ }
-    requires { ⌜ Judging s k j ⌝ }
-    requires { ⌜ isFormed s v ≡ true ⌝ }
-    ensures { λ r. ⌜ r ≡ pixelRight s k p v ⌝ }
-{
-    let g = j.ranges;
-    let l = j.luma;
-    let x = value::exact_luma(k, g.bias_y, g.range_y, l.under, p);
-    near_by(s, l.bound, x, v)
 }
 
 // Whether a word is right as the luma of a pixel.
@@ -109,7 +95,7 @@ fn limit_for(l: Limits, t: Tile) -> Limit
 }
 
 // Cb's limits for a U, Cr's for a V.
-fn own_limit(j: Judge, u: bool, t: Tile) -> Limit
+pub fn own_limit(j: Judge, u: bool, t: Tile) -> Limit
     ensures { λ r. ⌜ r ≡ ownLimit j u (t .wide) (t .two) ⌝ }
 {
     let cb = j.cb;
@@ -122,7 +108,7 @@ fn own_limit(j: Judge, u: bool, t: Tile) -> Limit
 }
 
 // The exact Cb of a U, the exact Cr of a V.
-pub fn exact_chroma(u: bool, k: Named, bias: u32, range: u32, under: u64, b: Sums) -> Exact
+fn exact_chroma(u: bool, k: Named, bias: u32, range: u32, under: u64, b: Sums) -> Exact
     requires { ⌜ Modest k bias range under ⌝ }
     requires { ⌜ UpToFour b ⌝ }
     ensures { λ r. ⌜ Exactly (chromaBy k bias range under (ownSum u b) b) r ⌝ }

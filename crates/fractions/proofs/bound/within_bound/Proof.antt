@@ -1,5 +1,6 @@
 -- `within_bound` meets its contract. Assumes nothing.
 use mathlib.Core.Path.{_∙_}
+use native.Mathlib.Omega.{arith}
 use lib.Dec.{leb}
 use borrow.Author.Needs.{needs}
 use Rattle.fractions.specs.Bound.{apart}
@@ -13,7 +14,7 @@ lifted-requires-2 : tie.Need-lifted-requires-2
 lifted-requires-2 c κs = search needs
 
 within-requires : tie.Need-within-requires
-within-requires c κs = (c .before .lifted .ensures .1, c .lifted2 .ensures .1, c .before .before .pre .1)
+within-requires c κs = (omega (arith, c .before .lifted .ensures .1), omega (arith, c .lifted2 .ensures .1), omega (arith, c .before .before .pre .1))
 
 returns : tie.Need-returns
 returns c =

@@ -2,7 +2,7 @@
 use borrow.Author.Needs.{needs}
 use mathlib.Core.Path.{_≡_, sym, ap, _∙_, subst}
 use borrow.Author.Tests.{not-true, not-false}
-use mathlib.Core.Bool.{Bool, false}
+use mathlib.Core.Bool.{Bool}
 use mathlib.Core.List.{List}
 use Prim.Native.Nat.{ℕ, _-_, _*_, _≤_, _<_}
 use native.Mathlib.Omega.{arith}
@@ -14,7 +14,7 @@ use Rattle.rules.specs.Check.{Clean, chromaTest}
 use Rattle.samples.proofs.Tiles.{height-small, top-below, two-below}
 use Rattle.frames.specs.Rows.{rowPixel}
 use Rattle.frames.proofs.Places.{row-small}
-use Rattle.sample_check.specs.Samples.{elementRight, secondOf}
+use Rattle.sample_check.specs.Samples.{elementRight}
 use Rattle.sample_check.proofs.Rows.{second-below}
 use Rattle.frame_check.proofs.Walked.{CleanRow, row-more, clean-none, clean-more, clean-all, first-wrong}
 use Rattle.frame_check.proofs.Parts.{Part, part-of, part, part-long, chroma-shown}
@@ -225,16 +225,9 @@ shown c e h q =
 chroma-passed-requires : tie.Need-chroma-passed-requires Inv-loop μ-loop Inv-walk μ-walk
 unfolding topRow lowRow chromaRow
 chroma-passed-requires c κs =
-    let l = c .before .before .before .before in
-    let o = l .before .before .before in
-    let t = o .before in
-    let d = t .before .before .before .before in
-    let g = d .before in
-    let b = g .before .before .before in
-    let a = b .args in
-    let row : ℕ → List ℕ = λ r. part (a .source .now) (r * a .f .«source_stride») (a .f .width * g .get-channels-count .result) in
-    let same : o .two .result ≡ false → lowRow c ≡ topRow c = λ e. ap row (l .second .ensures ∙ ap (λ (two : Bool). secondOf two (t .top .result)) e) in
-    (b .pre .0, ((b .pre .1 .0 .narrow, omega (arith, chroma-long c, d .chroma-width .ensures)), (long c, same)))
+    let d = c .before .before .before .before .before .before .before .before .before .before .before .before in
+    let b = d .before .before .before .before in
+    (b .pre .0, ((b .pre .1 .0 .narrow, omega (arith, chroma-long c, d .chroma-width .ensures)), long c))
 
 loop-holds : tie.Need-loop-holds Inv-loop μ-loop Inv-walk μ-walk
 unfolding topRow lowRow chromaRow

@@ -2,85 +2,72 @@
 use borrow.Author.Needs.{needs}
 use borrow.Author.Tests.{not-false}
 use mathlib.Core.Path.{sym, ap, _∙_}
-use Prim.Native.Nat.{ℕ, _-_}
+use mathlib.Core.List.{[], _∷_}
+use Prim.Native.Nat.{_<_}
 use native.Mathlib.Omega.{arith}
-use lib.ListN.{getD}
-use Rattle.rules.specs.declared.Pixel.{Pixel}
+use lib.ListN.{length, getD}
+use Rattle.rules.specs.Storage.{exchanged}
+use Rattle.fractions.specs.Sums.{sumsOf}
 use Rattle.frames.specs.Rows.{rowPixel}
-use Rattle.sample_check.specs.Samples.{pixelRight}
-use Rattle.row_check.specs.Prefixes.{Passed}
-use Rattle.row_check.proofs.Prefixes.{passed-none, passed-more}
+use Rattle.sample_check.proofs.Limits.{luma-modest}
+use Rattle.row_check.specs.Gauges.{sharesOf, gaugeOf, lumaNear}
+use Rattle.row_check.proofs.Prefixes.{passed-none, passed-as}
+use Rattle.row_check.proofs.Gauged.{luma-true}
 use Rattle.row_check.proofs.passed.luma_passed.Statement.{statement}
 use Rattle.row_check.proofs.passed.luma_passed.Tie as tie
 
-abbrev Inv-loop : tie.InvT-loop
-Inv-loop s k j width line luma channels e₀ e = Passed (λ (x : ℕ). pixelRight s k (rowPixel (s .channels) line x) (getD luma x 0)) width e
-
-abbrev μ-loop : tie.MeasureT-loop
-μ-loop s k j width line luma channels e₀ e = width - e
-
-all-formed-requires : tie.Need-all-formed-requires Inv-loop μ-loop
+all-formed-requires : tie.Need-all-formed-requires
 all-formed-requires c κs = search needs
 
-returns : tie.Need-returns Inv-loop μ-loop
+returns : tie.Need-returns
 returns c = passed-none
 
-loop-holds : tie.Need-loop-holds Inv-loop μ-loop
-loop-holds c = passed-none
+times-of-requires : tie.Need-times-of-requires
+times-of-requires c κs = search needs
 
-row-pixel-requires : tie.Need-row-pixel-requires Inv-loop μ-loop
-row-pixel-requires c κs = search needs
+shares-of-requires : tie.Need-shares-of-requires
+shares-of-requires c κs =
+    let b = c .before .before .before .before .before .before .before in
+    let h = b .pre .0 .1 in
+    (h .whole, luma-modest h (b .pre .0 .0) (h .luma .small) .range≤, c .times-of .ensures .1)
 
-mul-luma-near : tie.Need-mul-luma-near Inv-loop μ-loop
-mul-luma-near c = search needs
+gauge-of-requires : tie.Need-gauge-of-requires
+gauge-of-requires c κs =
+    let b = c .before .before .before .before .before .before .before .before in
+    let h = b .pre .0 .1 in
+    (luma-modest h (b .pre .0 .0) (h .luma .small) .bias≤, h .luma .small, h .luma .close, c .before .times-of .ensures .1)
 
-shared-slice-read-luma-near : tie.Need-shared-slice-read-luma-near Inv-loop μ-loop
-shared-slice-read-luma-near c = search needs
+luma-run-requires : tie.Need-luma-run-requires
+luma-run-requires c κs = search needs
 
-luma-near-requires : tie.Need-luma-near-requires Inv-loop μ-loop
-luma-near-requires c κs =
-    let i = c .before .before in
-    let f = i .before .before in
-    let b = f .before .before .before .before in
-    (b .pre .0 .0, (b .pre .0 .1, f .before .all-formed .ensures (not-false _ (f .if1 .left)) .each (i .before .loop .e) (omega (arith, i .loop-test .taken, b .pre .1 .0))))
-
-returns-2 : tie.Need-returns-2 Inv-loop μ-loop
-returns-2 c = c .before .before .before .before .before .loop .inv
-
-add-e : tie.Need-add-e Inv-loop μ-loop
-add-e c = search needs
-
-loop-less : tie.Need-loop-less Inv-loop μ-loop
-loop-less c = search needs
-
-loop-again : tie.Need-loop-again Inv-loop μ-loop
-loop-again c =
-    let n = c .before in
-    let p = n .before .before in
-    let i = p .before in
-    let l = i .before in
-    let a = l .before .before .before .before .before .args in
-    passed-more (i .loop-test .taken) (l .loop .inv)
-    (sym (n .luma-near .ensures ∙ ap (λ (q : Pixel). pixelRight (a .s) (a .k) q (getD (a .luma .now) (l .loop .e) 0)) (p .row-pixel .ensures)) ∙ not-false _ (c .if2 .left))
-
-returns-3 : tie.Need-returns-3 Inv-loop μ-loop
-returns-3 c = c .before .loop .inv
+returns-2 : tie.Need-returns-2
+returns-2 c =
+    let g = c .before in
+    let h = g .before in
+    let t = h .before in
+    let l = t .before .before .before in
+    let f = l .before in
+    let b = f .before .before .before in
+    let a = b .args in
+    let n = t .times-of .ensures .0 in
+    let shares = h .shares-of .ensures .0 ∙ ap (sharesOf (a .k) (a .j .ranges .«range_y»)) n in
+    let gauge = g .gauge-of .ensures .0 ∙ ap (gaugeOf (a .j .ranges .«bias_y») (a .j .luma)) n in
+    let formed = f .all-formed .ensures (not-false _ (l .if1 .left)) in
+    let p = c .luma-run .ensures in
+    passed-as
+    (λ e i q. let inside : e < length (a .luma .now) = omega (arith, i, p .most, b .pre .1 .0) in
+    luma-true (a .s) (getD (a .luma .now) e 0) (formed .each e inside) (a .k) (a .j) (b .pre .0 .1) (rowPixel (a .s .channels) (a .line .now) e)
+    (sym (λ o. lumaNear (gauge o) (shares o) (sumsOf (rowPixel (a .s .channels) (a .line .now) e ∷ [])) (exchanged (a .s .endianness) (getD (a .luma .now) e 0))) ∙ q))
+    p
 
 pub luma-passed-spec : {M : Type 1} → statement M
 luma-passed-spec =
     tie.close
     (tie.spec
-    Inv-loop
-    μ-loop
     all-formed-requires
     returns
-    loop-holds
-    row-pixel-requires
-    mul-luma-near
-    shared-slice-read-luma-near
-    luma-near-requires
-    returns-2
-    add-e
-    loop-less
-    loop-again
-    returns-3)
+    times-of-requires
+    shares-of-requires
+    gauge-of-requires
+    luma-run-requires
+    returns-2)

@@ -22,19 +22,12 @@ chroma-under-requires-3 c κs = search needs
 limit-of-requires-3 : tie.Need-limit-of-requires-3
 limit-of-requires-3 c κs = search needs
 
-chroma-under-requires-4 : tie.Need-chroma-under-requires-4
-chroma-under-requires-4 c κs = search needs
-
-limit-of-requires-4 : tie.Need-limit-of-requires-4
-limit-of-requires-4 c κs = search needs
-
 returns : tie.Need-returns
 returns c =
     record {
-      one = of-divisor (c .before .before .before .before .before .before .before .chroma-under .ensures .0) (c .before .before .before .before .before .before .limit-of .ensures);
-      two = of-divisor (c .before .before .before .before .before .chroma-under2 .ensures .0) (c .before .before .before .before .limit-of2 .ensures);
-      four = of-divisor (c .before .before .before .chroma-under3 .ensures .0) (c .before .before .limit-of3 .ensures);
-      repeated = of-divisor (c .before .chroma-under4 .ensures .0) (c .limit-of4 .ensures);
+      one = of-divisor (c .before .before .before .before .before .chroma-under .ensures .0) (c .before .before .before .before .limit-of .ensures);
+      two = of-divisor (c .before .before .before .chroma-under2 .ensures .0) (c .before .before .limit-of2 .ensures);
+      four = of-divisor (c .before .chroma-under3 .ensures .0) (c .limit-of3 .ensures);
     }
 
 pub limits-of-spec : {M : Type 1} → statement M
@@ -47,6 +40,4 @@ limits-of-spec =
     limit-of-requires-2
     chroma-under-requires-3
     limit-of-requires-3
-    chroma-under-requires-4
-    limit-of-requires-4
     returns)

@@ -36,7 +36,7 @@ returns c =
     let ch = a .s .channels in
     c .right-by .ensures
     ∙ chroma-judged (a .s) (a .k) (a .j) (b .pre .1 .0) (a .v) (a .u) (a .t .wide) (a .t .two) (rowPixel ch (a .top .now)) (rowPixel ch (a .low .now)) (a .t .left)
-    (l .own-limit .ensures) (m .sums .ensures .0) (c .before .exact-chroma .ensures)
+    (c .before .exact-chroma .result) (l .own-limit .ensures) (m .sums .ensures .0) (c .before .exact-chroma .ensures .value)
 
 pub chroma-right-spec : {M : Type 1} → statement M
 chroma-right-spec =

@@ -15,7 +15,7 @@ returns : tie.Need-returns
 returns c =
     let b = c .before .before .before .before in
     let a = b .args in
-    c .right-by .ensures ∙ luma-judged (a .s) (a .k) (a .j) (b .pre .1) (a .v) (a .p) (c .before .exact-luma .ensures)
+    c .right-by .ensures ∙ luma-judged (a .s) (a .k) (a .j) (b .pre .1) (a .v) (a .p) (c .before .exact-luma .result) (c .before .exact-luma .ensures .value)
 
 pub luma-right-spec : {M : Type 1} → statement M
 luma-right-spec = tie.close (tie.spec exact-luma-requires right-by-requires returns)
