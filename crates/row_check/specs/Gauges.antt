@@ -17,9 +17,11 @@ use Rattle.row_check.specs.declared.gauge.Gauge.{Gauge}
 abbrev pub timesOf : Settings → ℕ
 timesOf s = packed (s .packing) (s .depth) 1
 
+-- what one of a channel's sum counts in a numerator, and one of the channel's own
 abbrev pub sharesOf : Named → ℕ → ℕ → Shares
 sharesOf k range times = record { red = k .kr * range * times; green = kg k * range * times; blue = k .kb * range * times; own = 10000 * range * times }
 
+-- a divisor, where the exact value starts, and how far from it a word may lie
 abbrev pub gaugeOf : ℕ → Limit → ℕ → Gauge
 gaugeOf bias l times = record { under = l .under; start = bias * l .under * times; bound = l .bound * times }
 
@@ -31,9 +33,11 @@ shared h z = h .red * z .red + h .green * z .green + h .blue * z .blue
 abbrev pub wordNear : Gauge → ℕ → ℕ → ℕ → Bool
 wordNear g plus minus v = leb (apart (v * g .under + minus) (g .start + plus)) (g .bound)
 
+-- as luma, by the sums of one pixel
 abbrev pub lumaNear : Gauge → Shares → Sums → ℕ → Bool
 lumaNear g h z v = wordNear g (shared h z) 0 v
 
+-- as chroma, by the sums of a block and that of the channel's own
 abbrev pub chromaNear : Gauge → Shares → ℕ → Sums → ℕ → Bool
 chromaNear g h own z v = wordNear g (h .own * own) (shared h z) v
 

@@ -40,6 +40,7 @@ uNear m z chroma pair = chromaNear (m .cb) (m .shares) (z .blue) z (exchanged (m
 abbrev pub vNear : Ruler → Sums → List ℕ → ℕ → Bool
 vNear m z chroma pair = chromaNear (m .cr) (m .shares) (z .red) z (exchanged (m .endianness) (getD chroma (2 * pair + vAt (m .order)) 0))
 
+-- both
 unfoldable pub pairNear : Ruler → Sums → List ℕ → ℕ → Bool
 pairNear m z chroma pair = uNear m z chroma pair && vNear m z chroma pair
 

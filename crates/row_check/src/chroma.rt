@@ -141,6 +141,7 @@ fn single_run(m: Ruler, width: usize, two: bool, top: &[u16], low: &[u16], chrom
     ones(m, width, top, chroma)
 }
 
+// Blocks as the subsampling has them.
 pub(crate) fn chroma_run(
     subsampling: YuvChromaSubsampling,
     m: Ruler,

@@ -29,6 +29,7 @@ fn share(k: u32, range: u32, times: u16) -> u64
     (k as u64) * (range as u64) * (times as u64)
 }
 
+// The shares by the K's of a matrix and a range.
 pub(crate) fn shares_of(k: Named, range: u32, times: u16) -> Shares
     requires { ⌜ (k .kr + k .kb ≤ 10000) × (range ≤ 65535) × (times ≤ 64) ⌝ }
     ensures { λ r. ⌜ (r ≡ sharesOf k range times) × Light r ⌝ }
@@ -41,6 +42,7 @@ pub(crate) fn shares_of(k: Named, range: u32, times: u16) -> Shares
     }
 }
 
+// The gauge of a bias and a limit.
 pub(crate) fn gauge_of(bias: u32, l: Limit, times: u16) -> Gauge
     requires { ⌜ (bias ≤ 65535) × (l .under ≤ 5242800000) × (l .bound ≤ 60000000000000000) × (times ≤ 64) ⌝ }
     ensures { λ r. ⌜ (r ≡ gaugeOf bias l times) × Steady r ⌝ }

@@ -16,6 +16,7 @@ use rules::YuvEndianness;
 use rules::YuvSourceChannels;
 use samples::storage;
 
+// A sample for each pixel.
 fn run(
     channels: YuvSourceChannels,
     endianness: YuvEndianness,

@@ -19,6 +19,7 @@ fn counted(share: u64, sum: u32) -> u64
     share * (sum as u64)
 }
 
+// S = Kr·SR + Kg·SG + Kb·SB, by the shares.
 fn shared(h: Shares, z: Sums) -> u64
     requires { ⌜ (Light h) × (UpToFour z) ⌝ }
     ensures { λ r. ⌜ (r ≡ shared h z) × (r ≤ 33000000000000000) ⌝ }
@@ -26,6 +27,7 @@ fn shared(h: Shares, z: Sums) -> u64
     counted(h.red, z.red) + counted(h.green, z.green) + counted(h.blue, z.blue)
 }
 
+// Whether a word lies within the bound of an exact value, by the two parts of its numerator.
 fn word_near(g: Gauge, plus: u64, minus: u64, v: u16) -> bool
     requires { ⌜ (Steady g) × (plus ≤ 33000000000000000) × (minus ≤ 33000000000000000) ⌝ }
     ensures { λ r. ⌜ r ≡ wordNear g plus minus v ⌝ }
@@ -33,6 +35,7 @@ fn word_near(g: Gauge, plus: u64, minus: u64, v: u16) -> bool
     bound::within((v as u64) * g.under + minus, g.start + plus, g.bound)
 }
 
+// Whether a word passes as the luma of a pixel.
 pub(crate) fn luma_near(g: Gauge, h: Shares, p: Pixel, v: u16) -> bool
     requires { ⌜ (Steady g) × (Light h) ⌝ }
     ensures { λ r. ⌜ r ≡ lumaNear g h (sumsOf (p ∷ [])) v ⌝ }
@@ -40,7 +43,7 @@ pub(crate) fn luma_near(g: Gauge, h: Shares, p: Pixel, v: u16) -> bool
     word_near(g, shared(h, block::sums_of_one(p)), 0, v)
 }
 
-// Chroma also by the sum of the channel's own.
+// Whether a word passes as a chroma sample, by the sums of its block and that of the channel's own.
 pub(crate) fn chroma_near(g: Gauge, h: Shares, own: u32, z: Sums, v: u16) -> bool
     requires { ⌜ (Steady g) × (Light h) × (UpToFour z) × (own ≤ 262140) ⌝ }
     ensures { λ r. ⌜ r ≡ chromaNear g h own z v ⌝ }
