@@ -25,11 +25,13 @@ use Rattle.rule_laws.specs.Codes.{Low}
 use Rattle.rule_laws.specs.Usable.{Usable}
 use Rattle.tolerance_laws.specs.Chroma.{chromaRow}
 use Rattle.samples.proofs.Codes.{chroma-coded, code-below}
+use Rattle.samples.specs.Times.{timesOf}
+use Rattle.samples.proofs.Times.{packed-times}
 use Rattle.samples.proofs.Words.{packed-fits}
 use Rattle.joined_codes.specs.declared.lines.Line.{Line}
 use Rattle.joined_codes.specs.declared.lines.Lines.{Lines}
-use Rattle.joined_codes.specs.Joined.{beside, timesOf, asRead, lineOf, lineTwice, lineSum, startOf, rowOf, belowOf, cut, linesOf, Within, Steady}
-use Rattle.joined_codes.proofs.Sums.{Halves, halves, twice, steady, steady-twice, read-low, packed-times}
+use Rattle.joined_codes.specs.Joined.{beside, asRead, lineOf, lineTwice, lineSum, startOf, rowOf, belowOf, cut, linesOf, Within, Steady}
+use Rattle.joined_codes.proofs.Sums.{Halves, halves, twice, steady, steady-twice, read-low}
 
 -- ---- the biases
 

@@ -1,10 +1,10 @@
 -- The sum of a line is two sums, joined, and gives both codes. Assumes nothing.
 use mathlib.Core.Path.{_≡_, refl, sym, ap, _∙_, subst⁻¹}
 use Prim.Native.Nat.{ℕ, _+_, _-_, _*_, _/_, _^_, _≤_, _<_}
-use native.Mathlib.Nat.{mul-assoc, mul-div-mul-right, mul-le-mul, mul-one, div-add-mod', mod-lt}
+use native.Mathlib.Nat.{mul-assoc, mul-div-mul-right, mul-le-mul, div-add-mod', mod-lt}
 use native.Mathlib.Omega.{arith}
 use lib.Dec.{leb→le}
-use lib.Pow.{pow-add, pow-pos, pow-mono, shl-shr}
+use lib.Pow.{pow-add, pow-pos, pow-mono}
 use lib.IntN.{ℤ, pos, negsuc, natAbs, _+ℤ_, _*ℤ_}
 use lib.Signed.{shrZ}
 use Rattle.rules.specs.declared.Settings.{Settings}
@@ -12,34 +12,16 @@ use Rattle.rules.specs.declared.Triple.{Triple}
 use Rattle.rules.specs.declared.Pixel.{Pixel}
 use Rattle.rules.specs.declared.YuvSourceChannels.{YuvSourceChannels}
 use Rattle.rules.specs.declared.YuvSourceChannels.the-variants.{Rgb, Rgba, Bgra, Bgr}
-use Rattle.rules.specs.declared.YuvBytesPacking.{YuvBytesPacking}
-use Rattle.rules.specs.declared.YuvBytesPacking.the-variants.{MostSignificantBytes, LeastSignificantBytes}
 use Rattle.rules.specs.Ranges.{most}
 use Rattle.rules.specs.Sample.{weighted, beforeDivision, signedCode, code}
-use Rattle.rules.specs.Storage.{packed}
 use Rattle.rule_laws.specs.Codes.{Low, Between}
 use Rattle.rule_laws.specs.Usable.{Reach}
 use Rattle.integer_laws.proofs.Differences.{pp, np, Is, is-self, is-pos, is-add, is-times, is-shift, is-same, abs-plus, abs-mul}
-use Rattle.joined_codes.specs.Joined.{join, beside, timesOf, scaleOf, scaledRow, turned, inOrder, asRead, lineOf, lineTwice, lineSum, startOf, rowOf, Within, Steady}
+use Rattle.samples.specs.Times.{timesOf}
+use Rattle.samples.proofs.Times.{times-some, times-few, times-room}
+use Rattle.joined_codes.specs.Joined.{join, beside, scaleOf, scaledRow, turned, inOrder, asRead, lineOf, lineTwice, lineSum, startOf, rowOf, Within, Steady}
 
 -- ---- the scale
-
--- 2^16 over 2^d
-pub times-is : (d : ℕ) → d ≤ 16 → 65536 / 2 ^ d ≡ 2 ^ (16 - d)
-times-is d h =
-    let e : (16 - d) + d ≡ 16 = omega arith in
-    ap (λ (n : ℕ). n / 2 ^ d) (sym (ap (λ (n : ℕ). 2 ^ n) e) ∙ pow-add 2 (16 - d) d) ∙ shl-shr (2 ^ (16 - d)) d
-
-pub times-few : (k : YuvBytesPacking) (d : ℕ) → 10 ≤ d → (1 ≤ timesOf k d) × (timesOf k d ≤ 64)
-times-few MostSignificantBytes d h = (pow-pos (16 - d), pow-mono {i = 16 - d} {j = 6} (omega arith))
-times-few LeastSignificantBytes d h = (omega arith, omega arith)
-
-pub times-room : (k : YuvBytesPacking) (d : ℕ) → d ≤ 16 → 2 ^ d * timesOf k d ≤ 65536
-times-room MostSignificantBytes d h =
-    let e : d + (16 - d) ≡ 16 = omega arith in
-    let q : 2 ^ d * 2 ^ (16 - d) ≡ 65536 = sym (pow-add 2 d (16 - d)) ∙ ap (λ (n : ℕ). 2 ^ n) e in
-    omega (arith, q)
-times-room LeastSignificantBytes d h = omega (arith, pow-mono {i = d} {j = 16} h)
 
 pub scale-times : (s : Settings) → s .precision ≤ 13 → 2 ^ s .precision * scaleOf s ≡ 8192 * timesOf (s .packing) (s .depth)
 scale-times s h =
@@ -47,13 +29,13 @@ scale-times s h =
     let e : s .precision + (13 - s .precision) ≡ 13 = omega arith in
     sym (mul-assoc (2 ^ s .precision) (2 ^ (13 - s .precision)) t) ∙ ap (λ (n : ℕ). n * t) (sym (pow-add 2 (s .precision) (13 - s .precision)) ∙ ap (λ (n : ℕ). 2 ^ n) e)
 
-pub scale-some : (s : Settings) → 10 ≤ s .depth → 1 ≤ scaleOf s
-scale-some s h =
-    let x : 1 * 1 ≤ scaleOf s = mul-le-mul (pow-pos (13 - s .precision)) (times-few (s .packing) (s .depth) h .0) in x
+pub scale-some : (s : Settings) → 1 ≤ scaleOf s
+scale-some s =
+    let x : 1 * 1 ≤ scaleOf s = mul-le-mul (pow-pos (13 - s .precision)) (times-some (s .packing) (s .depth)) in x
 
 pub scale-few : (s : Settings) → Reach s → scaleOf s ≤ 262144
 scale-few s r =
-    let x : scaleOf s ≤ 4096 * 64 = mul-le-mul (pow-mono {i = 13 - s .precision} {j = 12} (omega (arith, r .coarse))) (times-few (s .packing) (s .depth) (r .shallow) .1) in x
+    let x : scaleOf s ≤ 4096 * 64 = mul-le-mul (pow-mono {i = 13 - s .precision} {j = 12} (omega (arith, r .coarse))) (times-few (s .packing) (s .depth) (r .shallow)) in x
 
 -- ---- sums
 
@@ -164,9 +146,9 @@ module _ (s : Settings) (reach : Reach s) (bias : ℕ) where
       let t = timesOf (s .packing) (s .depth) in
       let g = counted (beforeDivision (s .precision) bias w seen) (2 ^ s .precision) m b in
       let e : 2 ^ s .precision * scaleOf s ≡ divisor = scale-times s (reach .fine) in
-      let q : g .number * scaleOf s / (2 ^ s .precision * scaleOf s) ≡ g .number / 2 ^ s .precision = mul-div-mul-right (g .number) (2 ^ s .precision) (scale-some s (reach .shallow)) in
+      let q : g .number * scaleOf s / (2 ^ s .precision * scaleOf s) ≡ g .number / 2 ^ s .precision = mul-div-mul-right (g .number) (2 ^ s .precision) (scale-some s) in
       let r : g .number * scaleOf s / divisor ≡ g .number / 2 ^ s .precision = subst⁻¹ (λ (n : ℕ). g .number * scaleOf s / n ≡ g .number / 2 ^ s .precision) (sym e) q in
-      let some : 0 < divisor = omega (arith, times-few (s .packing) (s .depth) (reach .shallow) .0) in
+      let some : 0 < divisor = omega (arith, times-some (s .packing) (s .depth)) in
       let up : g .number / 2 ^ s .precision + 1 ≤ 2 ^ s .depth = omega (arith, g .small, pow-pos (s .depth)) in
       let l : (g .number / 2 ^ s .precision + 1) * divisor ≤ 2 ^ s .depth * divisor = mul-le-mul up (same divisor) in
       record {
@@ -214,7 +196,7 @@ module _ (s : Settings) (r : Reach s) where
       same n = omega arith
 
   pub scaled-under : (z : ℤ) → natAbs z ≤ 2 ^ s .precision → natAbs z * scaleOf s ≤ 524288
-  scaled-under z l = omega (arith, scaled-small z l, times-few (s .packing) (s .depth) (r .shallow) .1)
+  scaled-under z l = omega (arith, scaled-small z l, times-few (s .packing) (s .depth) (r .shallow))
 
   -- a row as the samples stand, with the scale that was worked out
   pub scalable : (w : Triple) → Within (2 ^ s .precision) w → {scale : ℕ} {v : Triple} → scale ≡ scaleOf s → v ≡ inOrder (s .channels) w
@@ -235,7 +217,7 @@ module _ (s : Settings) (r : Reach s) where
   pub row-small : (w : Triple) → Within (2 ^ s .precision) w → Within 1073741823 (rowOf s w)
   row-small w h =
       let x = row-within w h in
-      let t = times-few (s .packing) (s .depth) (r .shallow) .1 in
+      let t = times-few (s .packing) (s .depth) (r .shallow) in
       record { red = omega (arith, x .red, t); green = omega (arith, x .green, t); blue = omega (arith, x .blue, t) }
 
   pub start-small : (bias : ℕ) → bias + 1 ≤ 2 ^ s .depth → startOf s bias ≤ 536870911
@@ -246,7 +228,7 @@ module _ (s : Settings) (r : Reach s) where
       let t : (start + 1) * scaleOf s ≤ (bias + 1) * q * scaleOf s = mul-le-mul k (same (scaleOf s)) in
       let e : (bias + 1) * q * scaleOf s ≡ (bias + 1) * (8192 * timesOf (s .packing) (s .depth)) = mul-assoc (bias + 1) q (scaleOf s) ∙ ap (λ (n : ℕ). (bias + 1) * n) (scale-times s (r .fine)) in
       let l : (bias + 1) * timesOf (s .packing) (s .depth) ≤ 2 ^ s .depth * timesOf (s .packing) (s .depth) = mul-le-mul b (same (timesOf (s .packing) (s .depth))) in
-      by start (scaleOf s) ((bias + 1) * q * scaleOf s) t (omega (arith, e, l, times-room (s .packing) (s .depth) (r .deep))) (scale-some s (r .shallow))
+      by start (scaleOf s) ((bias + 1) * q * scaleOf s) t (omega (arith, e, l, times-room (s .packing) (s .depth) (r .deep))) (scale-some s)
     where
       same : (n : ℕ) → n ≤ n
       same n = omega arith
@@ -256,7 +238,7 @@ module _ (s : Settings) (r : Reach s) where
 
   -- m times what a code is multiplied by
   most-times : most (s .depth) * timesOf (s .packing) (s .depth) ≤ 65535
-  most-times = by (most (s .depth)) (timesOf (s .packing) (s .depth)) (2 ^ s .depth) (omega (arith, pow-pos (s .depth))) (times-room (s .packing) (s .depth) (r .deep)) (times-few (s .packing) (s .depth) (r .shallow) .0)
+  most-times = by (most (s .depth)) (timesOf (s .packing) (s .depth)) (2 ^ s .depth) (omega (arith, pow-pos (s .depth))) (times-room (s .packing) (s .depth) (r .deep)) (times-some (s .packing) (s .depth))
     where
       by : (m t p : ℕ) → m + 1 ≡ p → p * t ≤ 65536 → 1 ≤ t → m * t ≤ 65535
       by m t p e h l = let q : p * t ≡ (m + 1) * t = ap (λ (n : ℕ). n * t) (sym e) in omega arith
@@ -292,14 +274,10 @@ module _ (s : Settings) (r : Reach s) where
           third = one-by-joined _ _ (x .blue) (omega (arith, hp .blue, hq .blue));
         }
 
--- ---- reading and storing
+-- ---- reading
 
 pub read-low : (c : YuvSourceChannels) {m : ℕ} {p : Pixel} → Low m p → Low m (asRead c p)
 read-low Rgb h = h
 read-low Rgba h = h
 read-low Bgra h = record { red = h .blue; green = h .green; blue = h .red }
 read-low Bgr h = record { red = h .blue; green = h .green; blue = h .red }
-
-pub packed-times : (k : YuvBytesPacking) (d c : ℕ) → c * timesOf k d ≡ packed k d c
-packed-times MostSignificantBytes d c = refl
-packed-times LeastSignificantBytes d c = mul-one c

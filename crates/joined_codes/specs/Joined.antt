@@ -8,12 +8,11 @@ use Rattle.rules.specs.declared.Triple.{Triple}
 use Rattle.rules.specs.declared.Pixel.{Pixel}
 use Rattle.rules.specs.declared.YuvSourceChannels.{YuvSourceChannels}
 use Rattle.rules.specs.declared.YuvSourceChannels.the-variants.{Rgb, Rgba, Bgra, Bgr}
-use Rattle.rules.specs.declared.YuvBytesPacking.{YuvBytesPacking}
-use Rattle.rules.specs.declared.YuvBytesPacking.the-variants.{MostSignificantBytes, LeastSignificantBytes}
 use Rattle.rules.specs.Ranges.{biasY, biasUV}
 use Rattle.rules.specs.Weights.{lumaRow}
 use Rattle.rules.specs.Channels.{isU}
 use Rattle.tolerance_laws.specs.Chroma.{chromaRow}
+use Rattle.samples.specs.Times.{timesOf}
 use Rattle.joined_codes.specs.declared.lines.Line.{Line}
 use Rattle.joined_codes.specs.declared.lines.Lines.{Lines}
 
@@ -24,11 +23,6 @@ join a b = a +ℤ b *ℤ pos 4294967296
 -- the same of two samples
 abbrev pub beside : ℕ → ℕ → ℕ
 beside a b = a + b * 4294967296
-
--- "most-significant packing multiplies the code by 2^(16−d), least-significant keeps it"
-abbrev pub timesOf : YuvBytesPacking → ℕ → ℕ
-timesOf MostSignificantBytes d = 2 ^ (16 - d)
-timesOf LeastSignificantBytes d = 1
 
 -- 2^13 over 2^P, times what a code is multiplied by
 abbrev pub scaleOf : Settings → ℕ

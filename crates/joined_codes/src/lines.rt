@@ -4,13 +4,13 @@ ghost use mathlib.Core.Path.{_≡_};
 ghost use Prim.Native.Nat.{_+_, _*_, _^_, _≤_};
 ghost use lib.IntN.{pos, natAbs, _*ℤ_};
 ghost use Rattle.rule_laws.specs.Usable.{Reach, Usable};
-ghost use Rattle.joined_codes.specs.Joined.{join, timesOf, scaleOf, turned, inOrder, scaledRow, rowOf, startOf, lineOf, lineTwice, belowOf, linesOf, Within};
+ghost use Rattle.joined_codes.specs.Joined.{join, scaleOf, turned, inOrder, scaledRow, rowOf, startOf, lineOf, lineTwice, belowOf, linesOf, Within};
 use rules::Settings;
 use rules::Triple;
 use rules::Weights;
-use rules::YuvBytesPacking;
 use rules::YuvSourceChannels;
 use samples::code;
+use samples::storage;
 use samples::word;
 use yuv_support::ranges;
 
@@ -43,24 +43,13 @@ fn wide(a: i32) -> i64
     a as i64
 }
 
-// What a code is multiplied by to be stored.
-fn times_of(packing: YuvBytesPacking, depth: u32) -> u32
-    requires { ⌜ (10 ≤ depth) × (depth ≤ 16) ⌝ }
-    ensures { λ r. ⌜ (r ≡ timesOf packing depth) × (1 ≤ r) × (r ≤ 64) ⌝ }
-{
-    match packing {
-        YuvBytesPacking::MostSignificantBytes => 65536u32 >> depth,
-        YuvBytesPacking::LeastSignificantBytes => 1,
-    }
-}
-
-// 2^13 over 2^P, times that.
+// 2^13 over 2^P, times what a code is multiplied by to be stored.
 fn scale_of(s: Settings) -> u32
     requires { ⌜ Reach s ⌝ }
     ensures { λ r. ⌜ r ≡ scaleOf s ⌝ }
 {
     let packing = s.packing;
-    (1u32 << (13 - s.precision)) * times_of(packing, s.depth)
+    (1u32 << (13 - s.precision)) * (storage::times(packing, s.depth) as u32)
 }
 
 fn scaled(scale: u32, weight: i32) -> i32
@@ -170,7 +159,7 @@ fn below_of(s: Settings) -> u64
     ensures { λ r. ⌜ r ≡ belowOf s ⌝ }
 {
     let packing = s.packing;
-    (8192 * (times_of(packing, s.depth) as u64) - 1) * 4294967297
+    (8192 * (storage::times(packing, s.depth) as u64) - 1) * 4294967297
 }
 
 // Worked out once for a row.

@@ -4,18 +4,12 @@ use Prim.Native.Nat.{ℕ, _+_, _*_, _≤_}
 use mathlib.Core.Bool.{Bool}
 use lib.Dec.{leb}
 use Rattle.rules.specs.declared.Named.{Named}
-use Rattle.rules.specs.declared.Settings.{Settings}
 use Rattle.rules.specs.Matrices.{kg}
-use Rattle.rules.specs.Storage.{packed}
 use Rattle.fractions.specs.declared.Sums.{Sums}
 use Rattle.fractions.specs.Bound.{apart}
 use Rattle.sample_check.specs.declared.judge.Limit.{Limit}
 use Rattle.row_check.specs.declared.gauge.Shares.{Shares}
 use Rattle.row_check.specs.declared.gauge.Gauge.{Gauge}
-
--- how many times its code a well-formed word is, its bytes in order: the word of code 1
-abbrev pub timesOf : Settings → ℕ
-timesOf s = packed (s .packing) (s .depth) 1
 
 -- what one of a channel's sum counts in a numerator, and one of the channel's own
 abbrev pub sharesOf : Named → ℕ → ℕ → Shares

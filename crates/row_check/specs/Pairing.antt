@@ -10,11 +10,12 @@ use Rattle.rules.specs.declared.YuvChromaSubsampling.the-variants.{Yuv420, Yuv4
 use Rattle.rules.specs.Channels.{uAt, vAt}
 use Rattle.rules.specs.Storage.{exchanged}
 use Rattle.samples.specs.Tiles.{paired}
+use Rattle.samples.specs.Times.{timesOf}
 use Rattle.fractions.specs.declared.Sums.{Sums}
 use Rattle.sample_check.specs.declared.judge.Judge.{Judge}
 use Rattle.sample_check.specs.Samples.{ownLimit}
 use Rattle.row_check.specs.declared.chroma.Ruler.{Ruler}
-use Rattle.row_check.specs.Gauges.{timesOf, sharesOf, gaugeOf, chromaNear, Light, Steady}
+use Rattle.row_check.specs.Gauges.{sharesOf, gaugeOf, chromaNear, Light, Steady}
 
 -- how many pairs there are, but for an odd last one
 abbrev pub wholePairs : YuvChromaSubsampling → ℕ → ℕ
@@ -28,9 +29,9 @@ rulerOf s k j two = record {
   channels = s .channels;
   endianness = s .endianness;
   order = s .order;
-  shares = sharesOf k (j .ranges .«range_uv») (timesOf s);
-  cb = gaugeOf (j .ranges .«bias_uv») (ownLimit j true (paired (s .subsampling)) two) (timesOf s);
-  cr = gaugeOf (j .ranges .«bias_uv») (ownLimit j false (paired (s .subsampling)) two) (timesOf s);
+  shares = sharesOf k (j .ranges .«range_uv») (timesOf (s .packing) (s .depth));
+  cb = gaugeOf (j .ranges .«bias_uv») (ownLimit j true (paired (s .subsampling)) two) (timesOf (s .packing) (s .depth));
+  cr = gaugeOf (j .ranges .«bias_uv») (ownLimit j false (paired (s .subsampling)) two) (timesOf (s .packing) (s .depth));
 }
 
 -- the U of a pair by Cb's gauge, its V by Cr's

@@ -8,7 +8,6 @@ ghost use Rattle.rule_laws.specs.Usable.{Reach};
 ghost use Rattle.frames.specs.Rows.{rowPixel};
 ghost use Rattle.sample_check.specs.Judging.{Judging};
 ghost use Rattle.sample_check.specs.Samples.{pixelRight, elementRight};
-ghost use Rattle.row_check.specs.Gauges.{timesOf};
 ghost use Rattle.row_check.specs.Pairing.{rulerOf, Sound};
 ghost use Rattle.row_check.specs.Prefixes.{Passed};
 use crate::chroma;
@@ -18,21 +17,11 @@ use crate::gauge;
 use crate::luma;
 use rules::Named;
 use rules::Settings;
-use rules::YuvEndianness;
 use sample_check::judge::Judge;
 use sample_check::sample;
 use sample_check::sample::Tile;
 use samples::blocks;
 use samples::storage;
-
-// How many times its code a well-formed word is, its bytes in order.
-fn times_of(s: Settings) -> u16
-    requires { ⌜ Reach s ⌝ }
-    ensures { λ r. ⌜ (r ≡ timesOf s) × (r ≤ 64) ⌝ }
-{
-    let packing = s.packing;
-    storage::word(packing, YuvEndianness::LittleEndian, s.depth, 1)
-}
 
 // The samples of a luma row.
 pub fn luma_passed(
@@ -52,9 +41,10 @@ pub fn luma_passed(
     }
     let channels = s.channels;
     let endianness = s.endianness;
+    let packing = s.packing;
     let ranges = j.ranges;
     let limit = j.luma;
-    let times = times_of(s);
+    let times = storage::times(packing, s.depth);
     let h = gauge::shares_of(k, ranges.range_y, times);
     let g = gauge::gauge_of(ranges.bias_y, limit, times);
     luma::luma_run(channels, endianness, h, g, width, line, luma)
@@ -68,9 +58,10 @@ fn ruler_of(s: Settings, k: Named, j: Judge, two: bool) -> Ruler
     let channels = s.channels;
     let endianness = s.endianness;
     let order = s.order;
+    let packing = s.packing;
     let subsampling = s.subsampling;
     let ranges = j.ranges;
-    let times = times_of(s);
+    let times = storage::times(packing, s.depth);
     let wide = blocks::paired(subsampling);
     let t = Tile { left: 0, wide, two };
     let shares = gauge::shares_of(k, ranges.range_uv, times);

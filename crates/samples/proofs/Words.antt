@@ -34,7 +34,7 @@ unpacked-packed MostSignificantBytes d c = shl-shr c (16 - d)
 unpacked-packed LeastSignificantBytes d c = refl
 
 -- put back in its place, a code is all that the word held
-packed-unpacked : (k : YuvBytesPacking) (d v : ℕ) → inPlace k d v ≡ true → packed k d (unpacked k d v) ≡ v
+pub packed-unpacked : (k : YuvBytesPacking) (d v : ℕ) → inPlace k d v ≡ true → packed k d (unpacked k d v) ≡ v
 packed-unpacked MostSignificantBytes d v h = omega (arith, split v (16 - d), eqb-true (v % 2 ^ (16 - d)) 0 h)
 packed-unpacked LeastSignificantBytes d v h = refl
 

@@ -1,7 +1,6 @@
 -- `frames::scan::all_low` meets its contract: no colour sample of the rows passed exceeds m. Assumes nothing.
-use borrow.Author.Needs.{needs}
 use borrow.Author.Count.{below-none, below-more}
-use mathlib.Core.Path.{_≡_, sym, ap, subst}
+use mathlib.Core.Path.{sym, ap, subst}
 use mathlib.Core.Bool.{true≢false}
 use Prim.Native.Nat.{ℕ, _+_, _-_, _*_, _≤_, _<_}
 use native.Mathlib.Omega.{arith}

@@ -2,11 +2,11 @@
 use borrow.Author.Needs.{needs}
 use borrow.Author.Count.{below-none, below-more}
 use mathlib.Core.Path.{_≡_}
-use Prim.Native.Nat.{ℕ, _≤_, _<_, _+_, _-_, _*_, _%_}
+use Prim.Native.Nat.{_≤_, _+_, _-_, _*_, _%_}
 use native.Mathlib.Nat.{le-trans}
 use native.Mathlib.Omega.{arith}
-use lib.ListN.{length, getD}
-use Rattle.frames.specs.Bounds.{Bounds, BoundsAt}
+use lib.ListN.{length}
+use Rattle.frames.specs.Bounds.{Bounds}
 use Rattle.frames.proofs.scan.four_most.Statement.{statement}
 use Rattle.frames.proofs.scan.four_most.Tie as tie
 

@@ -22,20 +22,20 @@ all-formed-requires c κs = search needs
 returns : tie.Need-returns
 returns c = passed-none
 
-times-of-requires : tie.Need-times-of-requires
-times-of-requires c κs = search needs
+times-requires : tie.Need-times-requires
+times-requires c κs = search needs
 
 shares-of-requires : tie.Need-shares-of-requires
 shares-of-requires c κs =
     let b = c .before .before .before .before .before .before .before in
     let h = b .pre .0 .1 in
-    (h .whole, luma-modest h (b .pre .0 .0) (h .luma .small) .range≤, c .times-of .ensures .1)
+    (h .whole, luma-modest h (b .pre .0 .0) (h .luma .small) .range≤, c .times .ensures .2)
 
 gauge-of-requires : tie.Need-gauge-of-requires
 gauge-of-requires c κs =
     let b = c .before .before .before .before .before .before .before .before in
     let h = b .pre .0 .1 in
-    (luma-modest h (b .pre .0 .0) (h .luma .small) .bias≤, h .luma .small, h .luma .close, c .before .times-of .ensures .1)
+    (luma-modest h (b .pre .0 .0) (h .luma .small) .bias≤, h .luma .small, h .luma .close, c .before .times .ensures .2)
 
 luma-run-requires : tie.Need-luma-run-requires
 luma-run-requires c κs = search needs
@@ -49,7 +49,7 @@ returns-2 c =
     let f = l .before in
     let b = f .before .before .before in
     let a = b .args in
-    let n = t .times-of .ensures .0 in
+    let n = t .times .ensures .0 in
     let shares = h .shares-of .ensures .0 ∙ ap (sharesOf (a .k) (a .j .ranges .«range_y»)) n in
     let gauge = g .gauge-of .ensures .0 ∙ ap (gaugeOf (a .j .ranges .«bias_y») (a .j .luma)) n in
     let formed = f .all-formed .ensures (not-false _ (l .if1 .left)) in
@@ -66,7 +66,7 @@ luma-passed-spec =
     (tie.spec
     all-formed-requires
     returns
-    times-of-requires
+    times-requires
     shares-of-requires
     gauge-of-requires
     luma-run-requires

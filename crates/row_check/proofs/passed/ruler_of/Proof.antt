@@ -9,8 +9,8 @@ use Rattle.row_check.specs.Gauges.{sharesOf, gaugeOf}
 use Rattle.row_check.proofs.passed.ruler_of.Statement.{statement}
 use Rattle.row_check.proofs.passed.ruler_of.Tie as tie
 
-times-of-requires : tie.Need-times-of-requires
-times-of-requires c κs = search needs
+times-requires : tie.Need-times-requires
+times-requires c κs = search needs
 
 paired-requires : tie.Need-paired-requires
 paired-requires c κs = search needs
@@ -20,7 +20,7 @@ shares-of-requires c κs =
     let t = c .before in
     let b = t .before .before in
     let h = b .pre .1 in
-    (h .whole, chroma-modest h (b .pre .0) (h .luma .small) .range≤, t .times-of .ensures .1)
+    (h .whole, chroma-modest h (b .pre .0) (h .luma .small) .range≤, t .times .ensures .2)
 
 own-limit-requires : tie.Need-own-limit-requires
 own-limit-requires c κs = search needs
@@ -32,7 +32,7 @@ gauge-of-requires c κs =
     let b = t .before .before in
     let h = b .pre .1 in
     let f = own-fits h true (w .paired .result) (b .args .two) (c .own-limit .ensures) in
-    (chroma-modest h (b .pre .0) (h .luma .small) .bias≤, f .0, f .1, t .times-of .ensures .1)
+    (chroma-modest h (b .pre .0) (h .luma .small) .bias≤, f .0, f .1, t .times .ensures .2)
 
 own-limit-requires-2 : tie.Need-own-limit-requires-2
 own-limit-requires-2 c κs = search needs
@@ -44,7 +44,7 @@ gauge-of-requires-2 c κs =
     let b = t .before .before in
     let h = b .pre .1 in
     let f = own-fits h false (w .paired .result) (b .args .two) (c .own-limit2 .ensures) in
-    (chroma-modest h (b .pre .0) (h .luma .small) .bias≤, f .0, f .1, t .times-of .ensures .1)
+    (chroma-modest h (b .pre .0) (h .luma .small) .bias≤, f .0, f .1, t .times .ensures .2)
 
 returns : tie.Need-returns
 returns c =
@@ -56,7 +56,7 @@ returns c =
     let t = w .before in
     let a = t .before .before .args in
     let bias = a .j .ranges .«bias_uv» in
-    let n = t .times-of .ensures .0 in
+    let n = t .times .ensures .0 in
     let cb = l .own-limit .ensures ∙ ap (λ (b : Bool). ownLimit (a .j) true b (a .two)) (w .paired .ensures) in
     let cr = o .own-limit2 .ensures ∙ ap (λ (b : Bool). ownLimit (a .j) false b (a .two)) (w .paired .ensures) in
     let shares = h .shares-of .ensures .0 ∙ ap (sharesOf (a .k) (a .j .ranges .«range_uv»)) n in
@@ -70,7 +70,7 @@ pub ruler-of-spec : {M : Type 1} → statement M
 ruler-of-spec =
     tie.close
     (tie.spec
-    times-of-requires
+    times-requires
     paired-requires
     shares-of-requires
     own-limit-requires
