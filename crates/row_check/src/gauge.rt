@@ -1,4 +1,4 @@
-// What a row's words are compared by, worked out once. A well-formed word is its code as many times as the word of code 1 says, and the shares,
+// What a row's words are compared by, worked out once. A well-formed word is its code so many times, and the shares,
 // the start and the bound are taken as many times, so that no packing is undone.
 ghost use Prim.Native.Nat.{_+_, _*_, _≤_};
 ghost use mathlib.Core.Path.{_≡_};
@@ -21,7 +21,7 @@ pub struct Gauge {
     pub bound: u64,
 }
 
-// One K, times the range and the word of code 1.
+// One K, times the range, as many times.
 fn share(k: u32, range: u32, times: u16) -> u64
     requires { ⌜ (k ≤ 10000) × (range ≤ 65535) × (times ≤ 64) ⌝ }
     ensures { λ r. ⌜ (r ≡ k * range * times) × (r ≤ 41942400000) ⌝ }
