@@ -13,10 +13,23 @@ const SUBSAMPLINGS: [u32; 3] = [0, 1, 2];
 /// Even, since at odd widths and 4:2:0 the crate's planes differ by its known fault.
 const SIZES: [(usize, usize); 2] = [(1920, 1080), (4096, 2160)];
 
+/// Sizes and paddings for the cost of a pixel.
+const SCALES: [(usize, usize, usize); 7] = [
+    (128, 128, 0),
+    (512, 512, 0),
+    (2048, 2048, 0),
+    (8192, 4096, 0),
+    (2048, 2048, 1),
+    (2048, 2048, 63),
+    (2048, 2048, 4096),
+];
+
 pub struct Case {
     pub settings: Settings,
     pub width: usize,
     pub height: usize,
+    /// Elements past the visible ones in each row of all three buffers.
+    pub padding: usize,
 }
 
 fn settings(depth: u32, channels: u32, subsampling: u32) -> Settings {
@@ -41,10 +54,23 @@ pub fn all() -> Vec<Case> {
                         settings: settings(depth, channels, subsampling),
                         width,
                         height,
+                        padding: 0,
                     });
                 }
             }
         }
     }
     cases
+}
+
+/// 10 bits, Rgb, 4:2:0.
+pub fn scales() -> Vec<Case> {
+    SCALES
+        .map(|(width, height, padding)| Case {
+            settings: settings(DEPTHS[0], CHANNELS[0], SUBSAMPLINGS[0]),
+            width,
+            height,
+            padding,
+        })
+        .into()
 }

@@ -3,6 +3,7 @@ mod cases;
 mod clock;
 mod machine;
 mod rounds;
+mod scales;
 mod settle;
 mod stage;
 mod table;
@@ -31,6 +32,7 @@ fn main() {
         table::print_row(&case, &rounds::best_times(&mut stage));
     }
     table::print_notes();
+    scales::print_table();
     settle::print_time();
     machine::print_names();
 }

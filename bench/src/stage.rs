@@ -7,6 +7,9 @@ use crate::{ours, theirs};
 use published::Loops;
 use std::hint::black_box;
 
+/// What the planes hold before a converter writes them; no code of most-significant packing is stored as it at 10 bits.
+const UNWRITTEN: u16 = 1;
+
 #[derive(Clone, Copy)]
 pub enum Candidate {
     Copy,
@@ -43,7 +46,7 @@ impl Stage {
     /// Every buffer is written before the first round; both converters are held against each other, and the check accepts.
     pub fn new(case: &Case) -> Stage {
         let settings = case.settings;
-        let frame = Frame::padded(&settings, case.width, case.height, [0; 3]);
+        let frame = Frame::padded(&settings, case.width, case.height, [case.padding; 3]);
         let source = random_samples(&settings, frame.source_length());
         let (luma_length, chroma_length) = (frame.luma_length(), frame.chroma_length(&settings));
         let together = source.len() + luma_length + chroma_length;
@@ -52,7 +55,7 @@ impl Stage {
             frame,
             loops: theirs::loops(&settings),
             source,
-            planes: Planes::filled(luma_length, chroma_length, 1),
+            planes: Planes::filled(luma_length, chroma_length, UNWRITTEN),
             copied_from: vec![2; together],
             copied_to: vec![3; together],
         };
@@ -63,7 +66,7 @@ impl Stage {
 
     fn assert_same_planes(&mut self) {
         self.run(Candidate::Crate);
-        let unwritten = Planes::filled(self.planes.luma.len(), self.planes.chroma.len(), 4);
+        let unwritten = Planes::filled(self.planes.luma.len(), self.planes.chroma.len(), UNWRITTEN);
         let crates = std::mem::replace(&mut self.planes, unwritten);
         self.run(Candidate::Ours);
         assert!(

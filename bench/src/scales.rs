@@ -1,0 +1,33 @@
+//! The cost of a pixel, by the size of a frame and the padding of its rows.
+use crate::cases::{self, Case};
+use crate::rounds::{self, Times};
+use crate::stage::{Candidate, Stage};
+
+fn nanoseconds_of_a_pixel(case: &Case, times: &Times, candidate: Candidate) -> f64 {
+    times.milliseconds(candidate) * 1e6 / (case.width * case.height) as f64
+}
+
+fn print_row(case: &Case, times: &Times) {
+    println!(
+        "| {}×{} | {} | {:.2} | {:.2} |",
+        case.width,
+        case.height,
+        case.padding,
+        nanoseconds_of_a_pixel(case, times, Candidate::Ours),
+        nanoseconds_of_a_pixel(case, times, Candidate::Check),
+    );
+}
+
+pub fn print_table() {
+    println!(
+        "
+A pixel at 10 bits, Rgb, 4:2:0, by the size and by the elements of padding in each row:
+
+| size | padding | ours, ns | check, ns |
+|---|---|---|---|"
+    );
+    for case in cases::scales() {
+        let mut stage = Stage::new(&case);
+        print_row(&case, &rounds::best_times(&mut stage));
+    }
+}
