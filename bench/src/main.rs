@@ -23,16 +23,9 @@ mod random;
 #[allow(dead_code)]
 mod settings;
 
-use stage::Stage;
-
 fn main() {
-    table::print_head();
-    for case in cases::all() {
-        let mut stage = Stage::new(&case);
-        table::print_row(&case, &rounds::best_times(&mut stage));
-    }
-    table::print_notes();
-    scales::print_table();
+    table::print();
+    scales::print();
     settle::print_time();
     machine::print_names();
 }

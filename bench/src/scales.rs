@@ -1,7 +1,7 @@
 //! The cost of a pixel, by the size of a frame and the padding of its rows.
 use crate::cases::{self, Case};
 use crate::rounds::{self, Times};
-use crate::stage::{Candidate, Stage};
+use crate::stage::Candidate;
 
 fn nanoseconds_of_a_pixel(case: &Case, times: &Times, candidate: Candidate) -> f64 {
     times.milliseconds(candidate) * 1e6 / (case.width * case.height) as f64
@@ -18,7 +18,7 @@ fn print_row(case: &Case, times: &Times) {
     );
 }
 
-pub fn print_table() {
+pub fn print() {
     println!(
         "
 A pixel at 10 bits, Rgb, 4:2:0, by the size and by the elements of padding in each row:
@@ -26,8 +26,9 @@ A pixel at 10 bits, Rgb, 4:2:0, by the size and by the elements of padding in ea
 | size | padding | ours, ns | check, ns |
 |---|---|---|---|"
     );
-    for case in cases::scales() {
-        let mut stage = Stage::new(&case);
-        print_row(&case, &rounds::best_times(&mut stage));
+    let cases = cases::scales();
+    let best = rounds::best_times(&cases, &[Candidate::Ours, Candidate::Check]);
+    for (case, times) in cases.iter().zip(&best) {
+        print_row(case, times);
     }
 }

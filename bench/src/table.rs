@@ -1,18 +1,14 @@
 //! The table of all cases, and what its columns are.
-use crate::cases::Case;
-use crate::rounds::{Times, LEAST_ROUNDS};
+use crate::cases::{self, Case};
+use crate::rounds::{self, Times, LEAST_ROUNDS, PASSES};
 use crate::settings::{CHANNELS, SUBSAMPLINGS};
-use crate::stage::Candidate;
+use crate::stage::{Candidate, CANDIDATES};
 
 const HEAD: &str = "\
 | depth | channels | subsampling | size | crate, ms | ours, ms | ours/crate | check, ms | check/crate | check/ours | memcpy, ms |
 |---|---|---|---|---|---|---|---|---|---|---|";
 
-pub fn print_head() {
-    println!("{HEAD}");
-}
-
-pub fn print_row(case: &Case, times: &Times) {
+fn print_row(case: &Case, times: &Times) {
     let theirs = times.milliseconds(Candidate::Crate);
     let ours = times.milliseconds(Candidate::Ours);
     let check = times.milliseconds(Candidate::Check);
@@ -30,11 +26,11 @@ pub fn print_row(case: &Case, times: &Times) {
     );
 }
 
-pub fn print_notes() {
+fn print_notes() {
     println!(
         "
-Each time is processor time of one thread, the best of at least {LEAST_ROUNDS} rounds; a round runs all four, in the order opposite
-to that of the round before. Random samples of the depth, Bt709, limited, P = 13, UV, most significant, little endian, no
+Each time is processor time of one thread, the best of {PASSES} passes through all cases, with at least {LEAST_ROUNDS} rounds each; a round
+runs all four, in the order opposite to that of the round before. Random samples of the depth, Bt709, limited, P = 13, UV, most significant, little endian, no
 padding, buffers touched before. Before the rounds both converters wrote the same planes, and the check accepted them.
 
 - crate: the published loops of yuvutils-rs 0.8.3 with 13 for PRECISION, each setting compiled by itself as in the crate, with the
@@ -46,4 +42,14 @@ padding, buffers touched before. Before the rounds both converters wrote the sam
 - memcpy: as many bytes as source, luma and chroma have together. It reads and writes each byte, where a converter reads the source
   and writes the planes."
     );
+}
+
+pub fn print() {
+    let cases = cases::all();
+    let best = rounds::best_times(&cases, &CANDIDATES);
+    println!("{HEAD}");
+    for (case, times) in cases.iter().zip(&best) {
+        print_row(case, times);
+    }
+    print_notes();
 }
