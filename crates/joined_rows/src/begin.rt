@@ -1,6 +1,5 @@
 // The first columns of a row at once, luma and chroma together; the plain rows write what is left.
-// The loops over one row end by the length of their source part: by a count the compiler would take four pixels at a time, which is
-// slower, since their samples do not stand side by side.
+// The loops over one row end by the length of their source part: by a count of columns they take more instructions.
 ghost use mathlib.Core.Path.{_≡_};
 ghost use mathlib.Core.Bool.{true, false};
 ghost use Prim.Native.Nat.{_+_, _*_, _≤_};
