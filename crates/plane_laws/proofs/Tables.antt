@@ -9,6 +9,8 @@ use native.Mathlib.Omega.{arith}
 use lib.ListN.{length, getD, set, length-set}
 use lib.Seq.{ext-getD, getD-set-same, getD-set-other}
 use Rattle.rules.specs.Planes.{tabulate}
+use Rattle.plane_laws.specs.Rows.{Begun, Finished}
+use Rattle.plane_laws.proofs.Tests.{lt-or-le}
 
 pub length-tabulate : (n : ℕ) (f : ℕ → ℕ) → length (tabulate n f) ≡ n
 unfolding tabulate
@@ -33,17 +35,13 @@ is-tabulate l n f e h =
     ext-getD 0 l (tabulate n f) (e ∙ sym (length-tabulate n f))
     (λ i b. let b′ : i < n = omega (arith, e) in h i b′ ∙ sym (getD-tabulate n f i b′))
 
--- y is as long as y₀, and its first i elements are f's
-pub record Filled (y y₀ : List ℕ) (i : ℕ) (f : ℕ → ℕ) : Type 0 where
-  pub within : i ≤ length y₀
-  pub long : length y ≡ length y₀
-  pub done : (k : ℕ) → k < i → getD y k 0 ≡ f k
+-- ---- a row whose first elements are written, by a loop
 
-pub filled-none : (y : List ℕ) (f : ℕ → ℕ) → Filled y y 0 f
-filled-none y f = record { within = omega arith; long = refl; done = λ k h. absurd (not-suc-le-zero h) }
+pub begun-none : (y : List ℕ) (f : ℕ → ℕ) → Begun 0 f y y
+begun-none y f = record { within = omega arith; long = refl; done = λ k h. absurd (not-suc-le-zero h); kept = λ k h. refl }
 
-pub filled-more : (y y₀ : List ℕ) (i v : ℕ) (f : ℕ → ℕ) → Filled y y₀ i f → i < length y₀ → v ≡ f i → Filled (set y i v) y₀ (i + 1) f
-filled-more y y₀ i v f h l e =
+pub begun-more : (old y : List ℕ) (i v : ℕ) (f : ℕ → ℕ) → Begun i f old y → i < length old → v ≡ f i → Begun (i + 1) f old (set y i v)
+begun-more old y i v f h l e =
     record {
       within = omega arith;
       long = length-set y i v ∙ h .long;
@@ -51,17 +49,62 @@ filled-more y y₀ i v f h l e =
           (λ (q : k ≡ i). subst⁻¹ (λ (j : ℕ). getD (set y i v) j 0 ≡ f j) q (getD-set-same y i v 0 (omega (arith, h .long)) ∙ e))
           (λ (q : k < i). getD-set-other y i k v 0 (λ r. lt-irrefl i (subst (λ (j : ℕ). j < i) r q)) ∙ h .done k q)
           (eq-or-lt-of-le (le-of-suc-le-suc (subst (λ (m : ℕ). k < m) (add-one i) b)));
+      kept = λ k b. getD-set-other y i k v 0 (λ r. lt-irrefl k (omega (arith, r))) ∙ h .kept k (omega arith);
     }
 
-pub filled-all : (y y₀ : List ℕ) (i n : ℕ) (f : ℕ → ℕ) → Filled y y₀ i f → length y₀ ≡ n → n ≤ i → y ≡ tabulate n f
-filled-all y y₀ i n f h e l = is-tabulate y n f (h .long ∙ e) (λ k b. h .done k (omega arith))
+pub begun-two : (old y : List ℕ) (i v w : ℕ) (f : ℕ → ℕ) → Begun i f old y → i + 2 ≤ length old → v ≡ f i → w ≡ f (i + 1) → Begun (i + 2) f old (set (set y i v) (i + 1) w)
+begun-two old y i v w f h l e d =
+    let n : i + 1 + 1 ≡ i + 2 = omega arith in
+    subst (λ (k : ℕ). Begun k f old (set (set y i v) (i + 1) w)) n
+    (begun-more old (set y i v) (i + 1) w f (begun-more old y i v f h (omega arith) e) (omega arith) d)
+
+-- the same by a number that was worked out
+pub begun-at : {n m : ℕ} {f : ℕ → ℕ} {old y : List ℕ} → n ≡ m → Begun n f old y → Begun m f old y
+begun-at {f} {old} {y} e h = subst (λ (k : ℕ). Begun k f old y) e h
+
+-- ---- and one whose last elements are
+
+pub finished-at : {n m : ℕ} {f : ℕ → ℕ} {old y : List ℕ} → n ≡ m → Finished n f old y → Finished m f old y
+finished-at {f} {old} {y} e h = subst (λ (k : ℕ). Finished k f old y) e h
+
+-- nothing is left to write
+pub finished-none : (n : ℕ) (f : ℕ → ℕ) (y : List ℕ) → length y ≤ n → Finished n f y y
+finished-none n f y h = record { long = refl; kept = λ k b. refl; done = λ k a b. absurd (lt-irrefl k (omega arith)) }
+
+pub finished-one : (i v : ℕ) (f : ℕ → ℕ) (y : List ℕ) → length y ≡ i + 1 → v ≡ f i → Finished i f y (set y i v)
+finished-one i v f y l e =
+    record {
+      long = length-set y i v;
+      kept = λ k b. getD-set-other y i k v 0 (λ r. lt-irrefl k (omega (arith, r)));
+      done = λ k a b.
+          let q : k ≡ i = omega arith in
+          subst⁻¹ (λ (j : ℕ). getD (set y i v) j 0 ≡ f j) q (getD-set-same y i v 0 (omega arith) ∙ e);
+    }
+
+pub finished-two : (i v w : ℕ) (f : ℕ → ℕ) (y : List ℕ) → length y ≡ i + 2 → v ≡ f i → w ≡ f (i + 1) → Finished i f y (set (set y i v) (i + 1) w)
+finished-two i v w f y l e d =
+    record {
+      long = length-set (set y i v) (i + 1) w ∙ length-set y i v;
+      kept = λ k b.
+          getD-set-other (set y i v) (i + 1) k w 0 (λ r. lt-irrefl k (omega (arith, r))) ∙ getD-set-other y i k v 0 (λ r. lt-irrefl k (omega (arith, r)));
+      done = λ k a b. ⊎-elim
+          (λ (q : k ≡ i + 1). subst⁻¹ (λ (j : ℕ). getD (set (set y i v) (i + 1) w) j 0 ≡ f j) q (getD-set-same (set y i v) (i + 1) w 0 (omega (arith, length-set y i v)) ∙ d))
+          (λ (q : k < i + 1).
+          let z : k ≡ i = omega arith in
+          subst⁻¹ (λ (j : ℕ). getD (set (set y i v) (i + 1) w) j 0 ≡ f j) z
+          (getD-set-other (set y i v) (i + 1) i w 0 (λ r. lt-irrefl i (omega (arith, r))) ∙ getD-set-same y i v 0 (omega arith) ∙ e))
+          (eq-or-lt-of-le (omega arith));
+    }
+
+-- begun, then finished, a row is a table
+pub row-written : (n m : ℕ) (f : ℕ → ℕ) (old y z : List ℕ) → length old ≡ m → Begun n f old y → Finished n f y z → z ≡ tabulate m f
+row-written n m f old y z l b e =
+    is-tabulate z m f (e .long ∙ b .long ∙ l)
+    (λ k h. ⊎-elim
+    (λ (q : k < n). e .kept k q ∙ b .done k q)
+    (λ (q : n ≤ k). e .done k q (omega (arith, b .long)))
+    (lt-or-le k n))
 
 -- n steps of k lie within L: so does the step from i on
 pub step-le : (i n k L : ℕ) → i < n → n * k ≤ L → i * k + k ≤ L
 step-le i n k L h l = omega (arith, mul-le-mul-right k h, suc-mul i k)
-
-pub filled-two : (y y₀ : List ℕ) (i v w : ℕ) (f : ℕ → ℕ) → Filled y y₀ i f → i + 2 ≤ length y₀ → v ≡ f i → w ≡ f (i + 1) → Filled (set (set y i v) (i + 1) w) y₀ (i + 2) f
-filled-two y y₀ i v w f h l e d =
-    let n : i + 1 + 1 ≡ i + 2 = omega arith in
-    subst (λ (k : ℕ). Filled (set (set y i v) (i + 1) w) y₀ k f) n
-    (filled-more (set y i v) y₀ (i + 1) w f (filled-more y y₀ i v f h (omega arith) e) (omega arith) d)

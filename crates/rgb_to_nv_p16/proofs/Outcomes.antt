@@ -20,7 +20,7 @@ use Rattle.rules.specs.Convert.{wordOf, lumaWord, chromaWord, answer, kept, ver
 use Rattle.plane_laws.proofs.Planes.{written-ext}
 use Rattle.plane_laws.proofs.Firsts.{first-ext}
 use Rattle.rgb_to_nv_p16.specs.Outcomes.{Admitted, SameColours, SamePicture}
-use Rattle.plain_rows.proofs.Tiles.{chroma-ext}
+use Rattle.last_column.proofs.Tiles.{chroma-ext}
 
 -- any two outcomes that convert's contract admits for one input are equal
 pub one-outcome : (s : Settings) (f : Frame) (source luma chroma : List ℕ) (a a′ : Converted) (l l′ c c′ : List ℕ)

@@ -21,11 +21,11 @@ use Rattle.plane_laws.proofs.Planes.{put, length-plane, plane-none, plane-row, 
 use Rattle.samples.specs.Tiles.{topOf, twoAt}
 use Rattle.samples.proofs.Tiles.{top-below, two-below}
 use Rattle.frames.specs.Rows.{rowPixel, Shows, Rows}
-use Rattle.plain_rows.specs.Words.{lumaElement, chromaElement}
+use Rattle.last_column.specs.Words.{lumaElement, chromaElement}
 use Rattle.rgb_to_nv_p16.specs.Turns.{twoRows}
 use Rattle.frames.specs.Tests.{Ready}
 use Rattle.rgb_to_nv_p16.specs.Turns.{Grows, rowsOver, Turn}
-use Rattle.plain_rows.proofs.Tiles.{element-is, element-ext}
+use Rattle.last_column.proofs.Tiles.{element-is, element-ext}
 use Rattle.rgb_to_nv_p16.proofs.Over.{over-here, over-one, over-two}
 
 -- ---- where the luma rows of a turn lie

@@ -9,11 +9,11 @@ ghost use Rattle.rules.specs.Planes.{tabulate, written};
 ghost use Rattle.rules.specs.Convert.{lumaWord};
 ghost use Rattle.rule_laws.specs.Usable.{Usable};
 ghost use Rattle.frames.specs.Rows.{rowPixel, Part};
-ghost use Rattle.plain_rows.specs.Words.{lumaElement, chromaElement};
+ghost use Rattle.last_column.specs.Words.{lumaElement, chromaElement};
 ghost use Rattle.rgb_to_nv_p16.specs.Turns.{twoRows};
-use joined_rows::begin;
-use plain_rows::chroma;
-use plain_rows::luma;
+use column_pairs::begin;
+use last_column::chroma;
+use last_column::luma;
 use rules::Settings;
 use rules::Weights;
 

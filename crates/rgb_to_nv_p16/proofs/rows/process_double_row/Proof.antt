@@ -6,8 +6,8 @@ use native.Mathlib.Omega.{arith}
 use lib.ListN.{length}
 use Rattle.rules.specs.Blocks.{chromaWidth}
 use Rattle.plane_laws.proofs.Tables.{length-tabulate}
-use Rattle.joined_rows.proofs.TwoRows.{upper-long, upper-begun, lower-long, lower-begun, as-before}
-use Rattle.joined_rows.proofs.Begins.{from-elements}
+use Rattle.column_pairs.proofs.TwoRows.{upper-long, upper-begun, lower-long, lower-begun, as-before}
+use Rattle.column_pairs.proofs.Begins.{from-elements}
 use Rattle.rgb_to_nv_p16.proofs.Turns.{two-written}
 use Rattle.rgb_to_nv_p16.proofs.rows.process_double_row.Statement.{statement}
 use Rattle.rgb_to_nv_p16.proofs.rows.process_double_row.Tie as tie

@@ -1,6 +1,6 @@
 -- `rgb_to_nv_p16::rows::process_halved_row` meets its contract. Assumes nothing.
 use borrow.Author.Needs.{needs}
-use Rattle.joined_rows.proofs.Begins.{from-elements}
+use Rattle.column_pairs.proofs.Begins.{from-elements}
 use Rattle.rgb_to_nv_p16.proofs.rows.process_halved_row.Statement.{statement}
 use Rattle.rgb_to_nv_p16.proofs.rows.process_halved_row.Tie as tie
 

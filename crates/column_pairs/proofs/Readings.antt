@@ -1,0 +1,153 @@
+-- Pixels read in the order of their samples, their means, and the words by them. Assumes nothing.
+use mathlib.Core.Path.{_≡_, refl, sym, ap, _∙_, subst, subst⁻¹}
+use mathlib.Core.Bool.{Bool, true, false, true≢false}
+use mathlib.Core.List.{List, [], _∷_}
+use Prim.Native.Nat.{ℕ, _+_, _*_, _/_, _%_, _≤_, _<_}
+use native.Mathlib.Nat.{le-of-mul-le-mul-right}
+use native.Mathlib.Omega.{arith}
+use lib.ListN.{length}
+use lib.Dec.{eqb}
+use borrow.Author.Tests.{lt-ltb}
+use Rattle.rules.specs.declared.Settings.{Settings}
+use Rattle.rules.specs.declared.Weights.{Weights}
+use Rattle.rules.specs.declared.Pixel.{Pixel}
+use Rattle.rules.specs.declared.YuvSourceChannels.{YuvSourceChannels}
+use Rattle.rules.specs.declared.YuvSourceChannels.the-variants.{Rgb, Rgba, Bgra, Bgr}
+use Rattle.rules.specs.declared.YuvChromaSubsampling.{YuvChromaSubsampling}
+use Rattle.rules.specs.declared.YuvChromaSubsampling.the-variants.{Yuv420, Yuv422, Yuv444}
+use Rattle.rules.specs.Ranges.{most, biasY, biasUV}
+use Rattle.rules.specs.Channels.{count, isU, uAt, pixelAt}
+use Rattle.rules.specs.Weights.{lumaRow}
+use Rattle.rules.specs.Sample.{code}
+use Rattle.rules.specs.Blocks.{averaged, total}
+use Rattle.rules.specs.Storage.{packed, exchanged, word}
+use Rattle.rules.specs.Convert.{wordOf}
+use Rattle.rule_laws.specs.Codes.{Low}
+use Rattle.tolerance_laws.specs.Chroma.{chromaRow}
+use Rattle.tolerance_laws.proofs.Means.{averaged-one}
+use Rattle.plane_laws.proofs.Tables.{step-le}
+use Rattle.samples.specs.Tiles.{paired, leftOf, wideAt}
+use Rattle.joined_codes.specs.Joined.{asRead}
+use Rattle.frames.specs.Rows.{rowPixel, Part}
+use Rattle.last_column.specs.Words.{lumaElement, pairMean, chromaElement}
+use Rattle.column_pairs.specs.Packed.{packedLuma, packedChroma}
+use Rattle.last_column.proofs.Tiles.{found}
+
+-- ---- pixels read in the order of their samples
+
+pub count-some : (c : YuvSourceChannels) → 3 ≤ count c
+count-some Rgb = omega arith
+count-some Rgba = omega arith
+count-some Bgra = omega arith
+count-some Bgr = omega arith
+
+row-is : (c : YuvSourceChannels) (part : List ℕ) (x : ℕ) → asRead c (pixelAt Rgb part (x * count c)) ≡ rowPixel c part x
+row-is Rgb part x = refl
+row-is Rgba part x = refl
+row-is Bgra part x = refl
+row-is Bgr part x = refl
+
+row-low : (c : YuvSourceChannels) {m : ℕ} (part : List ℕ) (x : ℕ) → Low m (rowPixel c part x) → Low m (pixelAt Rgb part (x * count c))
+row-low Rgb part x h = h
+row-low Rgba part x h = h
+row-low Bgra part x h = record { red = h .blue; green = h .green; blue = h .red }
+row-low Bgr part x h = record { red = h .blue; green = h .green; blue = h .red }
+
+module _ (s : Settings) {width : ℕ} {part : List ℕ} (h : Part s width part) {n : ℕ} (en : n ≡ count (s .channels)) where
+  -- the pixel of column x, which was read from index i on
+  module _ (x i : ℕ) (ei : i ≡ x * n) where
+    here : i ≡ x * count (s .channels)
+    here = ei ∙ ap (λ (k : ℕ). x * k) en
+
+    pub at-is : {p : Pixel} → p ≡ pixelAt Rgb part i → asRead (s .channels) p ≡ rowPixel (s .channels) part x
+    at-is e = ap (asRead (s .channels)) (e ∙ ap (pixelAt Rgb part) here) ∙ row-is (s .channels) part x
+
+    pub at-low : {p : Pixel} → p ≡ pixelAt Rgb part i → x < width → Low (most (s .depth)) p
+    at-low e b = subst⁻¹ (Low (most (s .depth))) (e ∙ ap (pixelAt Rgb part) here) (row-low (s .channels) part x (h .low .low x b))
+
+    pub at-room : x < width → i + 3 ≤ length part
+    at-room b = omega (arith, here, count-some (s .channels), step-le x width (count (s .channels)) (length part) b (h .long))
+
+  -- so many columns from x on lie in a part that is no longer than its pixels
+  pub columns-in : (x i columns : ℕ) → i ≡ x * n → length part ≡ width * count (s .channels) → i + columns * n ≤ length part → x + columns ≤ width
+  columns-in x i columns ei long l =
+      let k : ℕ = count (s .channels) in
+      let e : width * k ≡ width * n = ap (λ (m : ℕ). width * m) (sym en) in
+      let g : (x + columns) * n ≤ width * n = omega (arith, ei, long, l, e) in
+      le-of-mul-le-mul-right g (omega (arith, en, count-some (s .channels)))
+
+-- ---- words
+
+module _ (s : Settings) (w : Weights) where
+  pub luma-at : {v : ℕ} (p : Pixel) (t : ℕ → Pixel) (x : ℕ)
+      → v ≡ packed (s .packing) (s .depth) (code (s .precision) (biasY (s .range) (s .depth)) (lumaRow w) (asRead (s .channels) p)) → asRead (s .channels) p ≡ t x → v ≡ packedLuma s w t x
+  luma-at p t x e q = e ∙ ap (λ (z : Pixel). packed (s .packing) (s .depth) (code (s .precision) (biasY (s .range) (s .depth)) (lumaRow w) z)) q
+
+  place : (j k : ℕ) → j % 2 ≡ k % 2 → isU (s .order) j ≡ isU (s .order) k
+  place j k e = ap (λ (n : ℕ). eqb n (uAt (s .order))) e
+
+  pub chroma-at : {v : ℕ} (p : Pixel) (width : ℕ) (two : Bool) (t u : ℕ → Pixel) (j k : ℕ) {pair : ℕ} → j % 2 ≡ k % 2 → k / 2 ≡ pair
+      → v ≡ packed (s .packing) (s .depth) (code (s .precision) (biasUV (s .depth)) (chromaRow (isU (s .order) j) w) (asRead (s .channels) p))
+      → asRead (s .channels) p ≡ pairMean (s .subsampling) width two t u pair → v ≡ packedChroma s w width two t u k
+  unfolding packedChroma
+  chroma-at p width two t u j k ej ek e q =
+      let z = q ∙ sym (ap (pairMean (s .subsampling) width two t u) ek) in
+      e ∙ (λ i. packed (s .packing) (s .depth) (code (s .precision) (biasUV (s .depth)) (chromaRow (place j k ej i) w) (z i)))
+
+-- their bytes exchanged, they are the words of the rules
+pub luma-exchanged : (s : Settings) (w : Weights) (t : ℕ → Pixel) (k : ℕ) → exchanged (s .endianness) (packedLuma s w t k) ≡ lumaElement s w t k
+unfolding wordOf word
+luma-exchanged s w t k = refl
+
+pub chroma-exchanged : (s : Settings) (w : Weights) (width : ℕ) (two : Bool) (t u : ℕ → Pixel) (k : ℕ) → exchanged (s .endianness) (packedChroma s w width two t u k) ≡ chromaElement s w width two t u k
+unfolding packedChroma chromaElement wordOf word
+chroma-exchanged s w width two t u k = refl
+
+-- ---- means of pixels that were read so
+
+pub read-two : (c : YuvSourceChannels) (p q : Pixel) → asRead c (averaged (p ∷ q ∷ [])) ≡ averaged (asRead c p ∷ asRead c q ∷ [])
+unfolding averaged total
+read-two Rgb p q = refl
+read-two Rgba p q = refl
+read-two Bgra p q = refl
+read-two Bgr p q = refl
+
+pub read-four : (c : YuvSourceChannels) (p q u v : Pixel) → asRead c (averaged (p ∷ q ∷ u ∷ v ∷ [])) ≡ averaged (asRead c p ∷ asRead c q ∷ asRead c u ∷ asRead c v ∷ [])
+unfolding averaged total
+read-four Rgb p q u v = refl
+read-four Rgba p q u v = refl
+read-four Bgra p q u v = refl
+read-four Bgr p q u v = refl
+
+-- the block of a pixel by itself, and of a pair of columns
+pub single : (s : Settings) (width : ℕ) (t : ℕ → Pixel) (x : ℕ) → s .subsampling ≡ Yuv444 → t x ≡ pairMean (s .subsampling) width false t t x
+single s width t x e = sym (averaged-one (t x)) ∙ sym (ap (λ (o : YuvChromaSubsampling). pairMean o width false t t x) e)
+
+left-pair : (o : YuvChromaSubsampling) (x : ℕ) → paired o ≡ true → x % 2 ≡ 0 → x ≡ leftOf o (x / 2)
+left-pair Yuv420 x e h = omega arith
+left-pair Yuv422 x e h = omega arith
+left-pair Yuv444 x e h = absurd (true≢false (sym e))
+
+wide-pair : (o : YuvChromaSubsampling) (width x : ℕ) → paired o ≡ true → x + 1 < width → true ≡ wideAt o width x
+wide-pair Yuv420 width x e h = sym (lt-ltb (x + 1) width h)
+wide-pair Yuv422 width x e h = sym (lt-ltb (x + 1) width h)
+wide-pair Yuv444 width x e h = absurd (true≢false (sym e))
+
+module _ (s : Settings) (w : Weights) (width : ℕ) (t u : ℕ → Pixel) (x : ℕ) (e : paired (s .subsampling) ≡ true) (even : x % 2 ≡ 0) (h : x + 1 < width) where
+  pub two-columns : {z : Pixel} (p q : Pixel) → z ≡ averaged (p ∷ q ∷ []) → asRead (s .channels) p ≡ t x → asRead (s .channels) q ≡ t (x + 1)
+      → asRead (s .channels) z ≡ pairMean (s .subsampling) width false t u (x / 2)
+  two-columns p q g hp hq =
+      found s w width false t u (x / 2) (left-pair (s .subsampling) x e even) (wide-pair (s .subsampling) width x e h)
+      (ap (asRead (s .channels)) g ∙ read-two (s .channels) p q ∙ (λ i. averaged (hp i ∷ hq i ∷ [])))
+
+  pub two-rows : {z : Pixel} (p q a b : Pixel) → z ≡ averaged (p ∷ q ∷ a ∷ b ∷ []) → asRead (s .channels) p ≡ t x → asRead (s .channels) q ≡ t (x + 1) → asRead (s .channels) a ≡ u x → asRead (s .channels) b ≡ u (x + 1)
+      → asRead (s .channels) z ≡ pairMean (s .subsampling) width true t u (x / 2)
+  two-rows p q a b g hp hq ha hb =
+      found s w width true t u (x / 2) (left-pair (s .subsampling) x e even) (wide-pair (s .subsampling) width x e h)
+      (ap (asRead (s .channels)) g ∙ read-four (s .channels) p q a b ∙ (λ i. averaged (hp i ∷ hq i ∷ ha i ∷ hb i ∷ [])))
+
+pub count-few : (c : YuvSourceChannels) → count c ≤ 4
+count-few Rgb = omega arith
+count-few Rgba = omega arith
+count-few Bgra = omega arith
+count-few Bgr = omega arith
