@@ -1,4 +1,3 @@
 pub mod Readings
-pub mod TwoRows
-pub mod Begins
+pub mod Turns
 pub mod Exchanges

@@ -3,7 +3,6 @@ use mathlib.Core.Path.{_≡_, refl, sym, ap, _∙_, subst, subst⁻¹}
 use mathlib.Core.Bool.{Bool, true, false, true≢false}
 use mathlib.Core.List.{List, [], _∷_}
 use Prim.Native.Nat.{ℕ, _+_, _*_, _/_, _%_, _≤_, _<_}
-use native.Mathlib.Nat.{le-of-mul-le-mul-right}
 use native.Mathlib.Omega.{arith}
 use lib.ListN.{length}
 use lib.Dec.{eqb}
@@ -30,7 +29,7 @@ use Rattle.samples.specs.Tiles.{paired, leftOf, wideAt}
 use Rattle.joined_codes.specs.Joined.{asRead}
 use Rattle.frames.specs.Rows.{rowPixel, Part}
 use Rattle.last_column.specs.Words.{lumaElement, pairMean, chromaElement}
-use Rattle.column_pairs.specs.Packed.{packedLuma, packedChroma}
+use Rattle.column_pairs.specs.Packed.{lumaOf, chromaOf, packedLuma, packedChroma}
 use Rattle.last_column.proofs.Tiles.{found}
 
 -- ---- pixels read in the order of their samples
@@ -66,33 +65,25 @@ module _ (s : Settings) {width : ℕ} {part : List ℕ} (h : Part s width part) 
     at-low e b = subst⁻¹ (Low (most (s .depth))) (e ∙ ap (pixelAt Rgb part) here) (row-low (s .channels) part x (h .low .low x b))
 
     pub at-room : x < width → i + 3 ≤ length part
-    at-room b = omega (arith, here, count-some (s .channels), step-le x width (count (s .channels)) (length part) b (h .long))
-
-  -- so many columns from x on lie in a part that is no longer than its pixels
-  pub columns-in : (x i columns : ℕ) → i ≡ x * n → length part ≡ width * count (s .channels) → i + columns * n ≤ length part → x + columns ≤ width
-  columns-in x i columns ei long l =
-      let k : ℕ = count (s .channels) in
-      let e : width * k ≡ width * n = ap (λ (m : ℕ). width * m) (sym en) in
-      let g : (x + columns) * n ≤ width * n = omega (arith, ei, long, l, e) in
-      le-of-mul-le-mul-right g (omega (arith, en, count-some (s .channels)))
+    at-room b =
+        let l : width * count (s .channels) ≤ length part = omega (arith, h .long) in
+        omega (arith, here, count-some (s .channels), step-le x width (count (s .channels)) (length part) b l)
 
 -- ---- words
 
 module _ (s : Settings) (w : Weights) where
-  pub luma-at : {v : ℕ} (p : Pixel) (t : ℕ → Pixel) (x : ℕ)
-      → v ≡ packed (s .packing) (s .depth) (code (s .precision) (biasY (s .range) (s .depth)) (lumaRow w) (asRead (s .channels) p)) → asRead (s .channels) p ≡ t x → v ≡ packedLuma s w t x
-  luma-at p t x e q = e ∙ ap (λ (z : Pixel). packed (s .packing) (s .depth) (code (s .precision) (biasY (s .range) (s .depth)) (lumaRow w) z)) q
+  pub luma-at : {p : Pixel} (t : ℕ → Pixel) (x : ℕ) → p ≡ t x → lumaOf s w p ≡ packedLuma s w t x
+  luma-at t x q = ap (lumaOf s w) q
 
   place : (j k : ℕ) → j % 2 ≡ k % 2 → isU (s .order) j ≡ isU (s .order) k
   place j k e = ap (λ (n : ℕ). eqb n (uAt (s .order))) e
 
-  pub chroma-at : {v : ℕ} (p : Pixel) (width : ℕ) (two : Bool) (t u : ℕ → Pixel) (j k : ℕ) {pair : ℕ} → j % 2 ≡ k % 2 → k / 2 ≡ pair
-      → v ≡ packed (s .packing) (s .depth) (code (s .precision) (biasUV (s .depth)) (chromaRow (isU (s .order) j) w) (asRead (s .channels) p))
-      → asRead (s .channels) p ≡ pairMean (s .subsampling) width two t u pair → v ≡ packedChroma s w width two t u k
+  pub chroma-at : {p : Pixel} (width : ℕ) (two : Bool) (t u : ℕ → Pixel) (j k : ℕ) {pair : ℕ} → j % 2 ≡ k % 2 → k / 2 ≡ pair
+      → p ≡ pairMean (s .subsampling) width two t u pair → chromaOf s w j p ≡ packedChroma s w width two t u k
   unfolding packedChroma
-  chroma-at p width two t u j k ej ek e q =
+  chroma-at width two t u j k ej ek q =
       let z = q ∙ sym (ap (pairMean (s .subsampling) width two t u) ek) in
-      e ∙ (λ i. packed (s .packing) (s .depth) (code (s .precision) (biasUV (s .depth)) (chromaRow (place j k ej i) w) (z i)))
+      λ i. packed (s .packing) (s .depth) (code (s .precision) (biasUV (s .depth)) (chromaRow (place j k ej i) w) (z i))
 
 -- their bytes exchanged, they are the words of the rules
 pub luma-exchanged : (s : Settings) (w : Weights) (t : ℕ → Pixel) (k : ℕ) → exchanged (s .endianness) (packedLuma s w t k) ≡ lumaElement s w t k
@@ -145,9 +136,3 @@ module _ (s : Settings) (w : Weights) (width : ℕ) (t u : ℕ → Pixel) (x : �
   two-rows p q a b g hp hq ha hb =
       found s w width true t u (x / 2) (left-pair (s .subsampling) x e even) (wide-pair (s .subsampling) width x e h)
       (ap (asRead (s .channels)) g ∙ read-four (s .channels) p q a b ∙ (λ i. averaged (hp i ∷ hq i ∷ ha i ∷ hb i ∷ [])))
-
-pub count-few : (c : YuvSourceChannels) → count c ≤ 4
-count-few Rgb = omega arith
-count-few Rgba = omega arith
-count-few Bgra = omega arith
-count-few Bgr = omega arith

@@ -1,3 +1,3 @@
 pub mod Packed
-pub mod Begun
+pub mod Pairs
 pub mod Exchanged

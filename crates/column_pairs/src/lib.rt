@@ -1,3 +1,105 @@
-// The first columns of the rows of both planes at once, by joined codes.
-pub mod begin;
+// All columns of a row but an odd last one, two at a time: luma and chroma together, by joined codes.
+ghost use mathlib.Core.Path.{_≡_};
+ghost use mathlib.Core.Bool.{true, false};
+ghost use Prim.Native.Nat.{_≤_};
+ghost use lib.ListN.{length};
+ghost use Rattle.rule_laws.specs.Usable.{Usable};
+ghost use Rattle.samples.specs.Tiles.{paired};
+ghost use Rattle.plane_laws.specs.Rows.{Begun};
+ghost use Rattle.frames.specs.Rows.{Part};
+ghost use Rattle.last_column.specs.Words.{lumaWords, chromaWords};
+ghost use Rattle.last_column.specs.Columns.{evenColumns};
+ghost use Rattle.column_pairs.specs.Packed.{lumaPacked, chromaPacked};
+ghost use Rattle.column_pairs.specs.Pairs.{RowLengths, PairsWritten, PairsExchanged};
+
 mod exchange;
+mod loops;
+mod store;
+
+use last_column::elements_over;
+use rules::Settings;
+use rules::Weights;
+use rules::YuvChromaSubsampling;
+
+// From one source row, before the bytes are exchanged.
+fn halved_packed(
+    s: Settings,
+    w: Weights,
+    width: usize,
+    luma: &mut [u16],
+    chroma: &mut [u16],
+    rgba: &[u16],
+)
+    requires { ⌜ Usable s w ⌝ }
+    requires { ⌜ RowLengths s width (length (now luma)) (length (now chroma)) ⌝ }
+    requires { ⌜ Part s width (now rgba) ⌝ }
+    ensures { λ _. ⌜ PairsWritten (s .subsampling) width (lumaPacked s w (now (rgba .entry))) (chromaPacked s w width false (now (rgba .entry)) (now (rgba .entry))) (now (luma .entry)) (now (luma .exit)) (now (chroma .entry)) (now (chroma .exit)) ⌝ }
+{
+    let subsampling = s.subsampling;
+    match subsampling {
+        YuvChromaSubsampling::Yuv420 => loops::paired_loop(s, w, width, luma, chroma, rgba),
+        YuvChromaSubsampling::Yuv422 => loops::paired_loop(s, w, width, luma, chroma, rgba),
+        YuvChromaSubsampling::Yuv444 => loops::single_loop(s, w, width, luma, chroma, rgba),
+    }
+}
+
+// The bytes of the columns that are written.
+fn exchange_columns(s: Settings, width: usize, luma: &mut [u16], chroma: &mut [u16])
+    requires { ⌜ RowLengths s width (length (now luma)) (length (now chroma)) ⌝ }
+    ensures { λ _. ⌜ PairsExchanged s width (now (luma .entry)) (now (luma .exit)) (now (chroma .entry)) (now (chroma .exit)) ⌝ }
+{
+    let endianness = s.endianness;
+    let subsampling = s.subsampling;
+    let columns = 2 * (width / 2);
+    exchange::exchange(endianness, columns, luma);
+    exchange::exchange(endianness, elements_over(subsampling, columns), chroma);
+}
+
+// A luma row and a chroma row from one source row.
+pub fn halved_columns(
+    s: Settings,
+    w: Weights,
+    width: usize,
+    luma: &mut [u16],
+    chroma: &mut [u16],
+    rgba: &[u16],
+)
+    requires { ⌜ Usable s w ⌝ }
+    requires { ⌜ RowLengths s width (length (now luma)) (length (now chroma)) ⌝ }
+    requires { ⌜ Part s width (now rgba) ⌝ }
+    ensures { λ _. ⌜ PairsWritten (s .subsampling) width (lumaWords s w (now (rgba .entry))) (chromaWords s w width false (now (rgba .entry)) (now (rgba .entry))) (now (luma .entry)) (now (luma .exit)) (now (chroma .entry)) (now (chroma .exit)) ⌝ }
+{
+    halved_packed(s, w, width, luma, chroma, rgba);
+    exchange_columns(s, width, luma, chroma);
+}
+
+// The upper luma row and the chroma row from two source rows.
+pub fn double_columns(
+    s: Settings,
+    w: Weights,
+    width: usize,
+    luma: &mut [u16],
+    chroma: &mut [u16],
+    upper: &[u16],
+    lower: &[u16],
+)
+    requires { ⌜ (Usable s w) × (paired (s .subsampling) ≡ true) ⌝ }
+    requires { ⌜ RowLengths s width (length (now luma)) (length (now chroma)) ⌝ }
+    requires { ⌜ (Part s width (now upper)) × (Part s width (now lower)) ⌝ }
+    ensures { λ _. ⌜ PairsWritten (s .subsampling) width (lumaWords s w (now (upper .entry))) (chromaWords s w width true (now (upper .entry)) (now (lower .entry))) (now (luma .entry)) (now (luma .exit)) (now (chroma .entry)) (now (chroma .exit)) ⌝ }
+{
+    loops::block_loop(s, w, width, luma, chroma, upper, lower);
+    exchange_columns(s, width, luma, chroma);
+}
+
+// A luma row alone.
+pub fn luma_columns(s: Settings, w: Weights, width: usize, luma: &mut [u16], rgba: &[u16])
+    requires { ⌜ Usable s w ⌝ }
+    requires { ⌜ (width ≤ 16384) × (length (now luma) ≡ width) ⌝ }
+    requires { ⌜ Part s width (now rgba) ⌝ }
+    ensures { λ _. ⌜ Begun (evenColumns width) (lumaWords s w (now (rgba .entry))) (now (luma .entry)) (now (luma .exit)) ⌝ }
+{
+    let endianness = s.endianness;
+    loops::luma_loop(s, w, width, luma, rgba);
+    exchange::exchange(endianness, 2 * (width / 2), luma);
+}

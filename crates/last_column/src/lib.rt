@@ -9,7 +9,7 @@ ghost use Rattle.rule_laws.specs.Usable.{Usable};
 ghost use Rattle.samples.specs.Tiles.{tiles};
 ghost use Rattle.plane_laws.specs.Rows.{Finished};
 ghost use Rattle.frames.specs.Rows.{rowPixel, Part};
-ghost use Rattle.last_column.specs.Words.{lumaElement, chromaElement};
+ghost use Rattle.last_column.specs.Words.{lumaWords, chromaWords};
 ghost use Rattle.last_column.specs.Columns.{evenColumns, elementsOver};
 use frames::channels;
 use rules::Pixel;
@@ -25,7 +25,7 @@ pub fn last_luma(s: Settings, w: Weights, width: usize, luma: &mut [u16], rgba: 
     requires { ⌜ Usable s w ⌝ }
     requires { ⌜ (width ≤ 16384) × (length (now luma) ≡ width) ⌝ }
     requires { ⌜ Part s width (now rgba) ⌝ }
-    ensures { λ _. ⌜ Finished (evenColumns width) (lumaElement s w (rowPixel (s .channels) (now (rgba .entry)))) (now (luma .entry)) (now (luma .exit)) ⌝ }
+    ensures { λ _. ⌜ Finished (evenColumns width) (lumaWords s w (now (rgba .entry))) (now (luma .entry)) (now (luma .exit)) ⌝ }
 {
     let channels = s.channels;
     if width % 2 == 0 {
@@ -82,7 +82,7 @@ pub fn last_pair(
     requires { ⌜ Usable s w ⌝ }
     requires { ⌜ (width ≤ 16384) × (length (now chroma) ≡ chromaWidth (s .subsampling) width) ⌝ }
     requires { ⌜ (Part s width (now upper)) × (Part s width (now lower)) ⌝ }
-    ensures { λ _. ⌜ Finished (elementsOver (s .subsampling) (evenColumns width)) (chromaElement s w width two (rowPixel (s .channels) (now (upper .entry))) (rowPixel (s .channels) (now (lower .entry)))) (now (chroma .entry)) (now (chroma .exit)) ⌝ }
+    ensures { λ _. ⌜ Finished (elementsOver (s .subsampling) (evenColumns width)) (chromaWords s w width two (now (upper .entry)) (now (lower .entry))) (now (chroma .entry)) (now (chroma .exit)) ⌝ }
 {
     let channels = s.channels;
     let subsampling = s.subsampling;

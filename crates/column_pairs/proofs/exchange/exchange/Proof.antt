@@ -20,7 +20,7 @@ returns : tie.Need-returns
 returns c = exchanged-as (c .before .before .before .before .enum-told .given .1) (c .before .before .exchange-all .ensures)
 
 returns-2 : tie.Need-returns-2
-returns-2 c = exchanged-as (c .enum-told2 .given .1) (exchanged-little _ _ _)
+returns-2 c = exchanged-as (c .enum-told2 .given .1) (exchanged-little _ _)
 
 pub exchange-spec : {M : Type 1} → statement M
 exchange-spec =

@@ -11,20 +11,17 @@ use Rattle.column_pairs.proofs.exchange.exchange_all.Statement.{stateme
 use Rattle.column_pairs.proofs.exchange.exchange_all.Tie as tie
 
 abbrev Inv-loop : tie.InvT-loop
-Inv-loop from n row₀ i₀ row i = (i ≤ n) × Exchanged BigEndian from i row₀ row
+Inv-loop n row₀ i₀ row i = (i ≤ n) × Exchanged BigEndian i row₀ row
 
 abbrev μ-loop : tie.MeasureT-loop
-μ-loop from n row₀ i₀ row i = n - i
+μ-loop n row₀ i₀ row i = n - i
 
 -- the bytes of the row can be counted
 counted : (c : tie.After-slice-known Inv-loop μ-loop) → length (c .before .args .row .now) * 2 ≤ 18446744073709551615
 counted c = omega arith
 
 loop-holds : tie.Need-loop-holds Inv-loop μ-loop
-loop-holds c = (omega arith, exchanged-none BigEndian _ _)
-
-add-exchanged : tie.Need-add-exchanged Inv-loop μ-loop
-add-exchanged c = omega (arith, counted (c .before .before), c .before .before .before .pre)
+loop-holds c = (omega arith, exchanged-none BigEndian _)
 
 mul-exchanged : tie.Need-mul-exchanged Inv-loop μ-loop
 mul-exchanged c = omega (arith, counted (c .before .before), c .before .before .before .pre)
@@ -34,9 +31,6 @@ slice-read-exchanged c = omega (arith, c .before .before .before .before .pre, c
 
 exchanged-requires : tie.Need-exchanged-requires Inv-loop μ-loop
 exchanged-requires c κs = search needs
-
-add-row : tie.Need-add-row Inv-loop μ-loop
-add-row c = omega (arith, counted (c .before .before .before .before), c .before .before .before .before .before .pre)
 
 mul-row : tie.Need-mul-row Inv-loop μ-loop
 mul-row c = omega (arith, counted (c .before .before .before .before), c .before .before .before .before .before .pre)
@@ -51,8 +45,7 @@ loop-less : tie.Need-loop-less Inv-loop μ-loop
 loop-less c = omega arith
 
 loop-again : tie.Need-loop-again Inv-loop μ-loop
-loop-again c =
-    (omega arith, exchanged-more BigEndian (c .before .before .before .before .before .args .from) (c .before .before .before .loop .i) (c .before .before .before .before .before .args .row .now) _ _ (c .before .before .before .loop .inv .1) (omega (arith, c .before .before .before .before .before .pre)) (c .exchanged .ensures))
+loop-again c = (omega arith, exchanged-more BigEndian (c .before .before .before .loop .i) (c .before .before .before .before .before .args .row .now) _ _ (c .before .before .before .loop .inv .1) (omega (arith, c .before .before .before .before .before .pre)) (c .exchanged .ensures))
 
 same-length : tie.Need-same-length Inv-loop μ-loop
 same-length c = c .before .loop .inv .1 .long
@@ -69,11 +62,9 @@ exchange-all-spec =
     Inv-loop
     μ-loop
     loop-holds
-    add-exchanged
     mul-exchanged
     slice-read-exchanged
     exchanged-requires
-    add-row
     mul-row
     slice-write-row
     add-i
