@@ -5,7 +5,7 @@ use Prim.Native.Nat.{ℕ, _+_, _-_, _*_, _≤_, _<_}
 use native.Mathlib.Nat.{add-assoc, add-sub-cancel-left, mul-le-mul}
 use native.Mathlib.Omega.{arith}
 use lib.Dec.{lit<, lit≤}
-use lib.ListN.{getD, take, drop, length-drop}
+use lib.ListN.{length, getD, take, drop, length-drop}
 use lib.Seq.{length-take-le, getD-take, getD-drop}
 use Rattle.rules.specs.declared.Settings.{Settings}
 use Rattle.rules.specs.declared.Frame.{Frame}
@@ -17,6 +17,7 @@ use Rattle.rules.specs.Channels.{count, redAt, greenAt, blueAt, pixelAt, pictur
 use Rattle.rule_laws.specs.Codes.{Low}
 use Rattle.plane_laws.proofs.Tables.{step-le}
 use Rattle.frames.specs.Rows.{Shows, Part}
+use Rattle.frames.specs.SourceRows.{SourceRow}
 use Rattle.frames.specs.Tests.{Sized, Ready}
 
 -- the colour samples are the first three of a pixel
@@ -78,3 +79,20 @@ module _ (s : Settings) (f : Frame) (source : List ℕ) (luma chroma : ℕ) (rea
         long = omega arith;
         low = record { low = λ x b. subst⁻¹ (Low (most (s .depth))) (shows .same x b) (ready .low .low row within .low x b) };
       }
+
+-- the part that starts at row × stride and ends with the visible row
+pub source-row : (c : YuvSourceChannels) (f : Frame) (source : List ℕ) (row n : ℕ) → n ≡ f .width * count c → row * f .«source_stride» + f .width * count c ≤ length source
+    → SourceRow c f source row (take n (drop (row * f .«source_stride») source))
+source-row c f source row n exact fits =
+    let rest = length-drop (row * f .«source_stride») source in
+    let long = length-take-le n (drop (row * f .«source_stride») source) (omega arith) in
+    record { long = omega arith; shows = part-shows c source (f .«source_stride») (f .width) row n (omega arith) }
+
+-- a row of a source that is ready can be converted
+pub part-of : {s : Settings} {f : Frame} {source : List ℕ} {luma chroma row : ℕ} {part : List ℕ} → Ready s f source luma chroma → row < f .height → SourceRow (s .channels) f source row part
+    → Part s (f .width) part
+part-of {s} {row = row} ready within r =
+    record {
+      long = omega (arith, r .long);
+      low = record { low = λ x b. subst⁻¹ (Low (most (s .depth))) (r .shows .same x b) (ready .low .low row within .low x b) };
+    }

@@ -1,3 +1,4 @@
 pub mod Rows
+pub mod SourceRows
 pub mod Bounds
 pub mod Tests
