@@ -34,14 +34,7 @@ pub(crate) fn put_luma(
 }
 
 // The chroma pair of a pixel, or of the mean of a block, at elements k and k + 1.
-pub(crate) fn put_pair(
-    s: Settings,
-    w: Weights,
-    l: Lines,
-    chroma: &mut [u16],
-    k: usize,
-    p: Pixel,
-)
+pub(crate) fn put_pair(s: Settings, w: Weights, l: Lines, chroma: &mut [u16], k: usize, p: Pixel)
     requires { ⌜ (Usable s w) × (l ≡ linesOf s w) ⌝ }
     requires { ⌜ Low (most (s .depth)) p ⌝ }
     requires { ⌜ k + 2 ≤ length (now chroma) ⌝ }

@@ -1,12 +1,11 @@
 -- A turn of the frame loop: a chroma row and the luma rows over it, and what both planes gain. Definitions and statements only.
-use Prim.Native.Nat.{ℕ, zero, suc, _-_, _<_}
+use Prim.Native.Nat.{ℕ, _-_, _<_}
 use mathlib.Core.Path.{_≡_}
 use mathlib.Core.Bool.{Bool}
 use mathlib.Core.List.{List}
 use Rattle.rules.specs.declared.Settings.{Settings}
 use Rattle.rules.specs.declared.Weights.{Weights}
 use Rattle.rules.specs.declared.Frame.{Frame}
-use Rattle.rules.specs.declared.Pixel.{Pixel}
 use Rattle.rules.specs.declared.YuvChromaSubsampling.{YuvChromaSubsampling}
 use Rattle.rules.specs.Channels.{Picture, picture}
 use Rattle.rules.specs.Blocks.{chromaWidth, chromaHeight}
@@ -19,11 +18,6 @@ pub record Turn (s : Settings) (f : Frame) (row top : ℕ) (two : Bool) : Type 0
   pub within : row < chromaHeight (s .subsampling) (f .height)
   pub first : top ≡ topOf (s .subsampling) row
   pub second : two ≡ twoAt (s .subsampling) (f .height) top
-
--- the picture of an upper row and a lower one
-abbrev pub twoRows : (ℕ → Pixel) → (ℕ → Pixel) → Picture
-twoRows t u zero = t
-twoRows t u (suc row) = u
 
 -- how many luma rows lie over the first `row` chroma rows: two for each at 4:2:0, but never more than there are
 abbrev pub rowsOver : YuvChromaSubsampling → ℕ → ℕ → ℕ

@@ -13,7 +13,7 @@ use Rattle.rules.specs.Channels.{Picture}
 use Rattle.rules.specs.Blocks.{crossed, block, chromaWidth, chromaHeight}
 use Rattle.rule_laws.specs.Codes.{Low}
 use Rattle.tolerance_laws.specs.Block.{Block, one, two, four}
-use Rattle.samples.specs.Tiles.{leftOf, wideAt, topOf, twoAt, tiles}
+use Rattle.samples.specs.Tiles.{leftOf, wideAt, topOf, twoAt, secondOf, tiles}
 
 crossed-tiles : (a b : Bool) (px : Picture) (x r : ℕ) → crossed px (cond a (x ∷ (x + 1) ∷ []) (x ∷ [])) (cond b (r ∷ (r + 1) ∷ []) (r ∷ [])) ≡ tiles a b (px r) (px (r + 1)) x
 unfolding crossed
@@ -71,6 +71,11 @@ pub two-below : (s : YuvChromaSubsampling) (height t : ℕ) → twoAt s height t
 two-below Yuv420 height t e = ltb-true (t + 1) height e
 two-below Yuv422 height t e = absurd (true≢false (sym e))
 two-below Yuv444 height t e = absurd (true≢false (sym e))
+
+-- the second row of a block lies in the picture
+pub second-below : (two : Bool) (t height : ℕ) {u : ℕ} → u ≡ secondOf two t → t < height → (two ≡ true → t + 1 < height) → u < height
+second-below true t height e h g = omega (arith, g refl)
+second-below false t height e h g = omega arith
 
 -- ---- the pixels of a block that are not too large
 pub tiles-block : {m : ℕ} (a b : Bool) (t u : ℕ → Pixel) (x : ℕ) → Low m (t x) → (a ≡ true → Low m (t (x + 1))) → (b ≡ true → Low m (u x)) → (b ≡ true → a ≡ true → Low m (u (x + 1))) → Block m (tiles a b t u x)

@@ -1,6 +1,6 @@
 -- A chroma block by cases: its first column and row, and whether it has a second of each. Definitions only.
 use Prim.Native.Nat.{ℕ, _+_, _*_}
-use mathlib.Core.Bool.{Bool, true, false}
+use mathlib.Core.Bool.{Bool, true, false, cond}
 use mathlib.Core.List.{List, [], _∷_}
 use lib.Dec.{ltb}
 use Rattle.rules.specs.declared.Pixel.{Pixel}
@@ -32,6 +32,10 @@ abbrev pub twoAt : YuvChromaSubsampling → ℕ → ℕ → Bool
 twoAt Yuv420 height top = ltb (top + 1) height
 twoAt Yuv422 height top = false
 twoAt Yuv444 height top = false
+
+-- the second row of a block, or its first again where it has but one
+abbrev pub secondOf : Bool → ℕ → ℕ
+secondOf two top = cond two (top + 1) top
 
 -- the pixels of a block, from its two rows
 abbrev pub tiles : Bool → Bool → (ℕ → Pixel) → (ℕ → Pixel) → ℕ → List Pixel

@@ -2,7 +2,7 @@
 ghost use mathlib.Core.Path.{_≡_};
 ghost use Prim.Native.Nat.{_≤_, _<_};
 ghost use Rattle.rules.specs.Blocks.{chromaWidth, chromaHeight};
-ghost use Rattle.samples.specs.Tiles.{paired, leftOf, wideAt, topOf, twoAt};
+ghost use Rattle.samples.specs.Tiles.{paired, leftOf, wideAt, secondOf, topOf, twoAt};
 use rules::YuvChromaSubsampling;
 
 // Chroma elements in a row.
@@ -86,4 +86,12 @@ pub fn two(subsampling: YuvChromaSubsampling, height: usize, top: usize) -> bool
         YuvChromaSubsampling::Yuv422 => false,
         YuvChromaSubsampling::Yuv444 => false,
     }
+}
+
+// The second row of a block, or its first again where it has but one.
+pub fn second(two: bool, top: usize) -> usize
+    requires { ⌜ top < 18446744073709551615 ⌝ }
+    ensures { λ r. ⌜ r ≡ secondOf two top ⌝ }
+{
+    if two { top + 1 } else { top }
 }

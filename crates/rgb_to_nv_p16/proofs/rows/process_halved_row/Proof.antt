@@ -1,26 +1,18 @@
 -- `rgb_to_nv_p16::rows::process_halved_row` meets its contract. Assumes nothing.
 use borrow.Author.Needs.{needs}
-use Rattle.column_pairs.proofs.Begins.{from-elements}
+use mathlib.Core.Path.{_∙_}
+use Rattle.plane_laws.proofs.Tables.{row-written}
 use Rattle.rgb_to_nv_p16.proofs.rows.process_halved_row.Statement.{statement}
 use Rattle.rgb_to_nv_p16.proofs.rows.process_halved_row.Tie as tie
 
-begin-row-requires : tie.Need-begin-row-requires
-begin-row-requires c κs = search needs
+halved-columns-requires : tie.Need-halved-columns-requires
+halved-columns-requires c κs = search needs
 
-luma-row-requires : tie.Need-luma-row-requires
-luma-row-requires c κs =
-    let s = c .before .before .before .before .before .before .before .before .before .before .before in
-    (s .pre .0, (search needs, (s .pre .1 .1 .1 .1 .1, c .before .before .before .before .before .begin-row .ensures .luma-begun)))
+last-luma-requires : tie.Need-last-luma-requires
+last-luma-requires c κs = (c .before .before .before .before .before .before .before .before .before .before .before .pre .0, ((c .before .before .before .before .before .before .before .before .before .before .before .pre .1 .0 .narrow, c .before .before .before .before .before .halved-columns .ensures .in-luma .long ∙ c .before .before .before .before .before .before .before .before .before .before .before .pre .1 .0 .luma-long), c .before .before .before .before .before .before .before .before .before .before .before .pre .1 .1))
 
-elements-over-requires : tie.Need-elements-over-requires
-elements-over-requires c κs = search needs
-
-chroma-row-requires : tie.Need-chroma-row-requires
-chroma-row-requires c κs =
-    let s = c .before .before .before .before .before .before .before .before .before .before .before .before .before .before .before .before in
-    let g = c .before .before .before .before .before .before .before .before .before .before .begin-row .ensures in
-    let e = from-elements (c .before .elements-over .ensures) (g .even) (g .chroma-begun) in
-    (s .pre .0, (s .pre .1 .0, (search needs, ((s .pre .1 .1 .1 .1 .1, s .pre .1 .1 .1 .1 .1), (e .0, e .1)))))
+last-pair-requires : tie.Need-last-pair-requires
+last-pair-requires c κs = (c .before .before .before .before .before .before .before .before .before .before .before .before .before .before .before .pre .0, ((c .before .before .before .before .before .before .before .before .before .before .before .before .before .before .before .pre .1 .0 .narrow, c .before .before .before .before .before .before .before .before .before .halved-columns .ensures .in-chroma .long ∙ c .before .before .before .before .before .before .before .before .before .before .before .before .before .before .before .pre .1 .0 .chroma-long), (c .before .before .before .before .before .before .before .before .before .before .before .before .before .before .before .pre .1 .1, c .before .before .before .before .before .before .before .before .before .before .before .before .before .before .before .pre .1 .1)))
 
 same-length : tie.Need-same-length
 same-length c = search needs
@@ -29,16 +21,18 @@ same-length-2 : tie.Need-same-length-2
 same-length-2 c = search needs
 
 returns : tie.Need-returns
-returns c = search needs
+returns c = (
+  row-written _ _ _ _ _ _ (c .before .before .before .before .before .before .before .before .before .before .before .before .before .before .before .before .before .before .pre .1 .0 .luma-long) (c .before .before .before .before .before .before .before .before .before .before .before .before .halved-columns .ensures .in-luma) (c .before .before .before .before .before .before .last-luma .ensures),
+  row-written _ _ _ _ _ _ (c .before .before .before .before .before .before .before .before .before .before .before .before .before .before .before .before .before .before .pre .1 .0 .chroma-long) (c .before .before .before .before .before .before .before .before .before .before .before .before .halved-columns .ensures .in-chroma) (c .before .before .last-pair .ensures),
+)
 
 pub process-halved-row-spec : {M : Type 1} → statement M
 process-halved-row-spec =
     tie.close
     (tie.spec
-    begin-row-requires
-    luma-row-requires
-    elements-over-requires
-    chroma-row-requires
+    halved-columns-requires
+    last-luma-requires
+    last-pair-requires
     same-length
     same-length-2
     returns)
