@@ -72,14 +72,17 @@ module _ (s : Settings) {width : ℕ} {part : List ℕ} (h : Part s width part) 
   long-by = h .long ∙ sym (ap (λ (k : ℕ). width * k) en)
 
   module _ (x i : ℕ) (ei : i ≡ x * n) where
+    -- by a count of columns
+    pub columns-at : width ≤ 16384 → x + 2 ≤ width → Columns width n x i
+    columns-at narrow b =
+        let l : (x + 2) * n ≤ width * n = mul-le-mul-right n b in
+        record { below = b; short = omega (arith, ei, l, long-by, part-short narrow); second = omega (arith, ei) }
+
+    -- by the length of the part
     pub columns : width ≤ 16384 → i + 2 * n ≤ length part → Columns width n x i
     columns narrow l =
         let g : (x + 2) * n ≤ width * n = omega (arith, ei, long-by, l) in
-        record {
-          below = le-of-mul-le-mul-right g (omega (arith, least));
-          short = omega (arith, l, part-short narrow);
-          second = omega (arith, ei);
-        }
+        columns-at narrow (le-of-mul-le-mul-right g (omega (arith, least)))
 
     pub first-room : Columns width n x i → i + 3 ≤ length part
     first-room c = at-room s h en x i ei (omega (arith, c .below))

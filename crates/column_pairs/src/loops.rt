@@ -1,5 +1,5 @@
 // The loops over a row, two columns in each turn, before the bytes are exchanged.
-// Each ends by the length of its source part: by a count of columns they take more instructions.
+// Those over one source row end by its length, that over two by a count of pairs: so the compiler makes the shortest loop of each.
 ghost use mathlib.Core.Path.{_≡_};
 ghost use mathlib.Core.Bool.{true, false};
 ghost use Prim.Native.Nat.{_≤_};
@@ -119,16 +119,17 @@ pub(crate) fn block_loop(
     let channels = s.channels;
     let n = get_channels_count(channels);
     let l = lines::lines_of(s, w);
-    let mut x = 0;
-    let mut i = 0;
-    while i + 2 * n <= upper.len() {
+    let pairs = width / 2;
+    let mut pair = 0;
+    while pair < pairs {
+        let x = 2 * pair;
+        let i = x * n;
         let p = channels::pixel_at(YuvSourceChannels::Rgb, upper, i);
         let q = channels::pixel_at(YuvSourceChannels::Rgb, upper, i + n);
         store::put_luma(s, w, l, luma, x, p, q);
         let u = channels::pixel_at(YuvSourceChannels::Rgb, lower, i);
         let v = channels::pixel_at(YuvSourceChannels::Rgb, lower, i + n);
         store::put_pair(s, w, l, chroma, x, mean::mean_of_four(p, q, u, v));
-        x += 2;
-        i += 2 * n;
+        pair += 1;
     }
 }

@@ -10,29 +10,29 @@ use Rattle.rule_laws.specs.Codes.{Low}
 use Rattle.tolerance_laws.proofs.Means.{averaged-low}
 use Rattle.tolerance_laws.specs.Block.{four}
 use Rattle.plane_laws.specs.Rows.{Begun}
-use Rattle.plane_laws.proofs.Tables.{begun-none}
+use Rattle.plane_laws.proofs.Tables.{begun-none, begun-at}
 use Rattle.frames.specs.Rows.{rowPixel}
 use Rattle.column_pairs.specs.Packed.{lumaPacked, chromaPacked}
 use Rattle.column_pairs.proofs.Readings.{two-rows}
-use Rattle.column_pairs.proofs.Turns.{Columns, Pixels, least, small, part-short, columns, first-room, second-room, pixels, ended, luma-turn, pair-turn, wide-enough, pairs-written}
+use Rattle.column_pairs.proofs.Turns.{Columns, Pixels, small, columns-at, first-room, second-room, pixels, luma-turn, pair-turn, wide-enough, pairs-written}
 use Rattle.column_pairs.proofs.loops.block_loop.Statement.{statement}
 use Rattle.column_pairs.proofs.loops.block_loop.Tie as tie
 
 abbrev Inv-loop : tie.InvT-loop
-Inv-loop s w width luma₀ chroma₀ upper lower n l x₀ i₀ luma chroma x i = ((i ≡ x * n) × (i ≤ length upper) × (x % 2 ≡ 0)) × (Begun x (lumaPacked s w upper) luma₀ luma × Begun x (chromaPacked s w width true upper lower) chroma₀ chroma)
+Inv-loop s w width luma₀ chroma₀ upper lower n l pairs pair₀ luma chroma pair = (pair ≤ width / 2) × (Begun (2 * pair) (lumaPacked s w upper) luma₀ luma × Begun (2 * pair) (chromaPacked s w width true upper lower) chroma₀ chroma)
 
 abbrev μ-loop : tie.MeasureT-loop
-μ-loop s w width luma₀ chroma₀ upper lower n l x₀ i₀ luma chroma x i = length upper - i
+μ-loop s w width luma₀ chroma₀ upper lower n l pairs pair₀ luma chroma pair = width / 2 - pair
 
--- the two columns of this turn, and their pixels
-spot : (c : tie.In-loop Inv-loop μ-loop) → Columns (c .before .before .before .before .before .before .before .before .args .width) (c .before .before .before .get-channels-count .result) (c .before .loop .x) (c .before .loop .i)
-spot c = columns (c .before .before .before .before .before .before .before .before .args .s) (c .before .before .before .before .before .before .before .before .pre .1 .1 .0) (c .before .before .before .get-channels-count .ensures) (c .before .loop .x) (c .before .loop .i) (c .before .loop .inv .0 .0) (c .before .before .before .before .before .before .before .before .pre .1 .0 .narrow) (omega (arith, c .loop-test .taken))
+-- the two columns of this turn, and their pixels in both rows
+spot : (c : tie.In-loop Inv-loop μ-loop) → Columns (c .before .before .before .before .before .before .before .before .args .width) (c .before .before .before .get-channels-count .result) (2 * c .before .loop .pair) (2 * c .before .loop .pair * c .before .before .before .get-channels-count .result)
+spot c = columns-at (c .before .before .before .before .before .before .before .before .args .s) (c .before .before .before .before .before .before .before .before .pre .1 .1 .0) (c .before .before .before .get-channels-count .ensures) (2 * c .before .loop .pair) (2 * c .before .loop .pair * c .before .before .before .get-channels-count .result) refl (c .before .before .before .before .before .before .before .before .pre .1 .0 .narrow) (omega (arith, c .loop-test .taken))
 
-read : (c : tie.After-pixel-at2 Inv-loop μ-loop) → Pixels (c .before .before .before .before .before .before .before .before .before .before .args .s) (c .before .before .before .before .before .before .before .before .before .before .args .upper .now) (c .before .before .before .loop .x) (c .before .pixel-at .result) (c .pixel-at2 .result)
-read c = pixels (c .before .before .before .before .before .before .before .before .before .before .args .s) (c .before .before .before .before .before .before .before .before .before .before .pre .1 .1 .0) (c .before .before .before .before .before .get-channels-count .ensures) (c .before .before .before .loop .x) (c .before .before .before .loop .i) (c .before .before .before .loop .inv .0 .0) (spot (c .before .before)) (c .before .pixel-at .ensures) (c .pixel-at2 .ensures)
+read : (c : tie.After-pixel-at2 Inv-loop μ-loop) → Pixels (c .before .before .before .before .before .before .before .before .before .before .args .s) (c .before .before .before .before .before .before .before .before .before .before .args .upper .now) (2 * c .before .before .before .loop .pair) (c .before .pixel-at .result) (c .pixel-at2 .result)
+read c = pixels (c .before .before .before .before .before .before .before .before .before .before .args .s) (c .before .before .before .before .before .before .before .before .before .before .pre .1 .1 .0) (c .before .before .before .before .before .get-channels-count .ensures) (2 * c .before .before .before .loop .pair) (2 * c .before .before .before .loop .pair * c .before .before .before .before .before .get-channels-count .result) refl (spot (c .before .before)) (c .before .pixel-at .ensures) (c .pixel-at2 .ensures)
 
-read-lower : (c : tie.After-pixel-at4 Inv-loop μ-loop) → Pixels (c .before .before .before .before .before .before .before .before .before .before .before .before .before .before .before .before .args .s) (c .before .before .before .before .before .before .before .before .before .before .before .before .before .before .before .before .args .lower .now) (c .before .before .before .before .before .before .before .before .before .loop .x) (c .before .pixel-at3 .result) (c .pixel-at4 .result)
-read-lower c = pixels (c .before .before .before .before .before .before .before .before .before .before .before .before .before .before .before .before .args .s) (c .before .before .before .before .before .before .before .before .before .before .before .before .before .before .before .before .pre .1 .1 .1) (c .before .before .before .before .before .before .before .before .before .before .before .get-channels-count .ensures) (c .before .before .before .before .before .before .before .before .before .loop .x) (c .before .before .before .before .before .before .before .before .before .loop .i) (c .before .before .before .before .before .before .before .before .before .loop .inv .0 .0) (spot (c .before .before .before .before .before .before .before .before)) (c .before .pixel-at3 .ensures) (c .pixel-at4 .ensures)
+read-lower : (c : tie.After-pixel-at4 Inv-loop μ-loop) → Pixels (c .before .before .before .before .before .before .before .before .before .before .before .before .before .before .before .before .args .s) (c .before .before .before .before .before .before .before .before .before .before .before .before .before .before .before .before .args .lower .now) (2 * c .before .before .before .before .before .before .before .before .before .loop .pair) (c .before .pixel-at3 .result) (c .pixel-at4 .result)
+read-lower c = pixels (c .before .before .before .before .before .before .before .before .before .before .before .before .before .before .before .before .args .s) (c .before .before .before .before .before .before .before .before .before .before .before .before .before .before .before .before .pre .1 .1 .1) (c .before .before .before .before .before .before .before .before .before .before .before .get-channels-count .ensures) (2 * c .before .before .before .before .before .before .before .before .before .loop .pair) (2 * c .before .before .before .before .before .before .before .before .before .loop .pair * c .before .before .before .before .before .before .before .before .before .before .before .get-channels-count .result) refl (spot (c .before .before .before .before .before .before .before .before)) (c .before .pixel-at3 .ensures) (c .pixel-at4 .ensures)
 
 low-mean : (c : tie.After-mean-of-four Inv-loop μ-loop) → Low (most (c .before .before .before .before .before .before .before .before .before .before .before .before .before .before .before .before .before .before .args .s .depth)) (c .mean-of-four .result)
 low-mean c =
@@ -40,7 +40,7 @@ low-mean c =
     let h = read-lower (c .before .before) in
     subst⁻¹ (Low (most (c .before .before .before .before .before .before .before .before .before .before .before .before .before .before .before .before .before .before .args .s .depth))) (c .mean-of-four .ensures) (averaged-low (four (g .first-low) (g .second-low) (h .first-low) (h .second-low)))
 
-chroma-room : (c : tie.In-loop Inv-loop μ-loop) → c .before .loop .x + 2 ≤ length (c .before .before .before .before .before .before .before .before .args .chroma .now)
+chroma-room : (c : tie.In-loop Inv-loop μ-loop) → 2 * c .before .loop .pair + 2 ≤ length (c .before .before .before .before .before .before .before .before .args .chroma .now)
 chroma-room c =
     let s = c .before .before .before .before .before .before .before .before in
     omega (arith, spot c .below, s .pre .1 .0 .chroma-long, wide-enough (s .args .s .subsampling) (s .args .width))
@@ -52,22 +52,22 @@ lines-of-requires : tie.Need-lines-of-requires Inv-loop μ-loop
 lines-of-requires c κs = c .before .before .before .before .before .pre .0 .0
 
 loop-holds : tie.Need-loop-holds Inv-loop μ-loop
-loop-holds c = ((omega arith, omega arith, refl), (begun-none _ _, begun-none _ _))
+loop-holds c = (omega arith, (begun-none _ _, begun-none _ _))
 
-mul-loop : tie.Need-mul-loop Inv-loop μ-loop
-mul-loop c = omega (arith, small (c .before .before .before .before .before .before .before .args .s) (c .before .before .before .before .before .before .before .pre .1 .1 .0) (c .before .before .get-channels-count .ensures))
+mul-x : tie.Need-mul-x Inv-loop μ-loop
+mul-x c = omega (arith, spot (c) .below, c .before .before .before .before .before .before .before .before .pre .1 .0 .narrow)
 
-add-loop : tie.Need-add-loop Inv-loop μ-loop
-add-loop c = omega (arith, c .loop .inv .0 .1, small (c .before .before .before .before .before .before .before .args .s) (c .before .before .before .before .before .before .before .pre .1 .1 .0) (c .before .before .get-channels-count .ensures), part-short (c .before .before .before .before .before .before .before .args .s) (c .before .before .before .before .before .before .before .pre .1 .1 .0) (c .before .before .get-channels-count .ensures) (c .before .before .before .before .before .before .before .pre .1 .0 .narrow))
+mul-i : tie.Need-mul-i Inv-loop μ-loop
+mul-i c = omega (arith, spot (c) .short)
 
 pixel-at-requires : tie.Need-pixel-at-requires Inv-loop μ-loop
-pixel-at-requires c κs = first-room (c .before .before .before .before .before .before .before .before .args .s) (c .before .before .before .before .before .before .before .before .pre .1 .1 .0) (c .before .before .before .get-channels-count .ensures) (c .before .loop .x) (c .before .loop .i) (c .before .loop .inv .0 .0) (spot (c))
+pixel-at-requires c κs = first-room (c .before .before .before .before .before .before .before .before .args .s) (c .before .before .before .before .before .before .before .before .pre .1 .1 .0) (c .before .before .before .get-channels-count .ensures) (2 * c .before .loop .pair) (2 * c .before .loop .pair * c .before .before .before .get-channels-count .result) refl (spot (c))
 
 add-pixel-at : tie.Need-add-pixel-at Inv-loop μ-loop
 add-pixel-at c = omega (arith, spot (c .before) .short)
 
 pixel-at-requires-2 : tie.Need-pixel-at-requires-2 Inv-loop μ-loop
-pixel-at-requires-2 c κs = second-room (c .before .before .before .before .before .before .before .before .before .args .s) (c .before .before .before .before .before .before .before .before .before .pre .1 .1 .0) (c .before .before .before .before .get-channels-count .ensures) (c .before .before .loop .x) (c .before .before .loop .i) (c .before .before .loop .inv .0 .0) (spot (c .before))
+pixel-at-requires-2 c κs = second-room (c .before .before .before .before .before .before .before .before .before .args .s) (c .before .before .before .before .before .before .before .before .before .pre .1 .1 .0) (c .before .before .before .before .get-channels-count .ensures) (2 * c .before .before .loop .pair) (2 * c .before .before .loop .pair * c .before .before .before .before .get-channels-count .result) refl (spot (c .before))
 
 put-luma-requires : tie.Need-put-luma-requires Inv-loop μ-loop
 put-luma-requires c κs =
@@ -75,13 +75,13 @@ put-luma-requires c κs =
     ((c .before .before .before .before .before .before .before .before .before .before .before .pre .0 .0, c .before .before .before .before .before .lines-of .ensures), ((g .first-low, g .second-low), omega (arith, spot (c .before .before .before) .below, c .before .before .before .before .before .before .before .before .before .before .before .pre .1 .0 .luma-long, c .before .before .before .before .loop .inv .1 .0 .long)))
 
 pixel-at-requires-3 : tie.Need-pixel-at-requires-3 Inv-loop μ-loop
-pixel-at-requires-3 c κs = first-room (c .before .before .before .before .before .before .before .before .before .before .before .before .before .before .args .s) (c .before .before .before .before .before .before .before .before .before .before .before .before .before .before .pre .1 .1 .1) (c .before .before .before .before .before .before .before .before .before .get-channels-count .ensures) (c .before .before .before .before .before .before .before .loop .x) (c .before .before .before .before .before .before .before .loop .i) (c .before .before .before .before .before .before .before .loop .inv .0 .0) (spot (c .before .before .before .before .before .before))
+pixel-at-requires-3 c κs = first-room (c .before .before .before .before .before .before .before .before .before .before .before .before .before .before .args .s) (c .before .before .before .before .before .before .before .before .before .before .before .before .before .before .pre .1 .1 .1) (c .before .before .before .before .before .before .before .before .before .get-channels-count .ensures) (2 * c .before .before .before .before .before .before .before .loop .pair) (2 * c .before .before .before .before .before .before .before .loop .pair * c .before .before .before .before .before .before .before .before .before .get-channels-count .result) refl (spot (c .before .before .before .before .before .before))
 
 add-pixel-at-2 : tie.Need-add-pixel-at-2 Inv-loop μ-loop
 add-pixel-at-2 c = omega (arith, spot (c .before .before .before .before .before .before .before) .short)
 
 pixel-at-requires-4 : tie.Need-pixel-at-requires-4 Inv-loop μ-loop
-pixel-at-requires-4 c κs = second-room (c .before .before .before .before .before .before .before .before .before .before .before .before .before .before .before .args .s) (c .before .before .before .before .before .before .before .before .before .before .before .before .before .before .before .pre .1 .1 .1) (c .before .before .before .before .before .before .before .before .before .before .get-channels-count .ensures) (c .before .before .before .before .before .before .before .before .loop .x) (c .before .before .before .before .before .before .before .before .loop .i) (c .before .before .before .before .before .before .before .before .loop .inv .0 .0) (spot (c .before .before .before .before .before .before .before))
+pixel-at-requires-4 c κs = second-room (c .before .before .before .before .before .before .before .before .before .before .before .before .before .before .before .args .s) (c .before .before .before .before .before .before .before .before .before .before .before .before .before .before .before .pre .1 .1 .1) (c .before .before .before .before .before .before .before .before .before .before .get-channels-count .ensures) (2 * c .before .before .before .before .before .before .before .before .loop .pair) (2 * c .before .before .before .before .before .before .before .before .loop .pair * c .before .before .before .before .before .before .before .before .before .before .get-channels-count .result) refl (spot (c .before .before .before .before .before .before .before))
 
 mean-of-four-requires : tie.Need-mean-of-four-requires Inv-loop μ-loop
 mean-of-four-requires c κs = search needs
@@ -89,34 +89,30 @@ mean-of-four-requires c κs = search needs
 put-pair-requires : tie.Need-put-pair-requires Inv-loop μ-loop
 put-pair-requires c κs = ((c .before .before .before .before .before .before .before .before .before .before .before .before .before .before .before .before .before .before .pre .0 .0, c .before .before .before .before .before .before .before .before .before .before .before .before .lines-of .ensures), (low-mean c, omega (arith, chroma-room (c .before .before .before .before .before .before .before .before .before .before), c .before .before .before .before .before .before .before .before .before .before .before .loop .inv .1 .1 .long)))
 
-add-x : tie.Need-add-x Inv-loop μ-loop
-add-x c = omega (arith, spot (c .before .before .before .before .before .before .before .before .before .before .before .before .before) .below, c .before .before .before .before .before .before .before .before .before .before .before .before .before .before .before .before .before .before .before .before .before .pre .1 .0 .narrow)
-
-mul-i : tie.Need-mul-i Inv-loop μ-loop
-mul-i c = omega (arith, spot (c .before .before .before .before .before .before .before .before .before .before .before .before .before) .short)
-
-add-i : tie.Need-add-i Inv-loop μ-loop
-add-i c = omega (arith, spot (c .before .before .before .before .before .before .before .before .before .before .before .before .before) .short)
+add-pair : tie.Need-add-pair Inv-loop μ-loop
+add-pair c = omega (arith, spot (c .before .before .before .before .before .before .before .before .before .before .before .before .before) .below, c .before .before .before .before .before .before .before .before .before .before .before .before .before .before .before .before .before .before .before .before .before .pre .1 .0 .narrow)
 
 loop-less : tie.Need-loop-less Inv-loop μ-loop
-loop-less c = omega (arith, c .before .before .before .before .before .before .before .before .before .before .before .before .before .loop-test .taken, least (c .before .before .before .before .before .before .before .before .before .before .before .before .before .before .before .before .before .before .before .before .before .args .s) (c .before .before .before .before .before .before .before .before .before .before .before .before .before .before .before .before .before .before .before .before .before .pre .1 .1 .0) (c .before .before .before .before .before .before .before .before .before .before .before .before .before .before .before .before .get-channels-count .ensures))
+loop-less c = omega (arith, c .before .before .before .before .before .before .before .before .before .before .before .before .before .loop-test .taken)
 
 loop-again : tie.Need-loop-again Inv-loop μ-loop
 loop-again c =
     let v = c .before .before .before .before .before .before .before .before .before .before .before .before .before .before .before .before .before .before .before .before .before .args in
     let i = c .before .before .before .before .before .before .before .before .before .before .before .before .before .before .loop .inv in
-    let x = c .before .before .before .before .before .before .before .before .before .before .before .before .before .before .loop .x in
+    let x = 2 * c .before .before .before .before .before .before .before .before .before .before .before .before .before .before .loop .pair in
     let t = rowPixel (v .s .channels) (v .upper .now) in
+    let u = rowPixel (v .s .channels) (v .lower .now) in
     let place = spot (c .before .before .before .before .before .before .before .before .before .before .before .before .before) in
     let g = read (c .before .before .before .before .before .before .before .before .before .before .before) in
-    let room : x + 2 ≤ length (v .luma .now) = omega (arith, place .below, c .before .before .before .before .before .before .before .before .before .before .before .before .before .before .before .before .before .before .before .before .before .pre .1 .0 .luma-long) in
-    let u = rowPixel (v .s .channels) (v .lower .now) in
     let h = read-lower (c .before .before .before .before .before) in
-    let mean = two-rows (v .s) (v .w) (v .width) t u x (c .before .before .before .before .before .before .before .before .before .before .before .before .before .before .before .before .before .before .before .before .before .pre .0 .1) (i .0 .2) (omega (arith, place .below)) _ _ _ _ (c .before .before .before .mean-of-four .ensures) (g .first-is) (g .second-is) (h .first-is) (h .second-is) in (
-      (omega (arith, i .0 .0), omega (arith, c .before .before .before .before .before .before .before .before .before .before .before .before .before .loop-test .taken), omega (arith, i .0 .2)),
+    let even : x % 2 ≡ 0 = omega arith in
+    let next : x + 2 ≡ 2 * (c .before .before .before .before .before .before .before .before .before .before .before .before .before .before .loop .pair + 1) = omega arith in
+    let room : x + 2 ≤ length (v .luma .now) = omega (arith, place .below, c .before .before .before .before .before .before .before .before .before .before .before .before .before .before .before .before .before .before .before .before .before .pre .1 .0 .luma-long) in
+    let mean = two-rows (v .s) (v .w) (v .width) t u x (c .before .before .before .before .before .before .before .before .before .before .before .before .before .before .before .before .before .before .before .before .before .pre .0 .1) even (omega (arith, place .below)) _ _ _ _ (c .before .before .before .mean-of-four .ensures) (g .first-is) (g .second-is) (h .first-is) (h .second-is) in (
+      omega (arith, c .before .before .before .before .before .before .before .before .before .before .before .before .before .loop-test .taken),
       (
-        luma-turn (v .s) (v .w) (v .luma .now) _ g room (i .1 .0) (c .before .before .before .before .before .before .before .before .before .put-luma .ensures),
-        pair-turn (v .s) (v .w) _ (v .width) true t u x (x / 2) (v .chroma .now) _ (i .0 .2) refl (chroma-room (c .before .before .before .before .before .before .before .before .before .before .before .before .before)) mean (i .1 .1) (c .before .before .put-pair .ensures),
+        begun-at next (luma-turn (v .s) (v .w) (v .luma .now) _ g room (i .1 .0) (c .before .before .before .before .before .before .before .before .before .put-luma .ensures)),
+        begun-at next (pair-turn (v .s) (v .w) _ (v .width) true t u x (x / 2) (v .chroma .now) _ even refl (chroma-room (c .before .before .before .before .before .before .before .before .before .before .before .before .before)) mean (i .1 .1) (c .before .before .put-pair .ensures)),
       ),
     )
 
@@ -127,7 +123,7 @@ same-length-2 : tie.Need-same-length-2 Inv-loop μ-loop
 same-length-2 c = c .before .loop .inv .1 .1 .long
 
 returns : tie.Need-returns Inv-loop μ-loop
-returns c = pairs-written (ended (c .before .before .before .before .before .before .before .before .args .s) (c .before .before .before .before .before .before .before .before .pre .1 .1 .0) (c .before .before .before .get-channels-count .ensures) (c .before .loop .x) (c .before .loop .i) (c .before .loop .inv .0 .0) (c .before .loop .inv .0 .2) (c .before .loop .inv .0 .1) (omega (arith, c .loop-test .left))) (c .before .loop .inv .1 .0) (c .before .before .before .before .before .before .before .before .pre .0 .1) (c .before .loop .inv .1 .1)
+returns c = pairs-written (omega (arith, c .before .loop .inv .0, c .loop-test .left)) (c .before .loop .inv .1 .0) (c .before .before .before .before .before .before .before .before .pre .0 .1) (c .before .loop .inv .1 .1)
 
 pub block-loop-spec : {M : Type 1} → statement M
 block-loop-spec =
@@ -138,8 +134,8 @@ block-loop-spec =
     get-channels-count-requires
     lines-of-requires
     loop-holds
-    mul-loop
-    add-loop
+    mul-x
+    mul-i
     pixel-at-requires
     add-pixel-at
     pixel-at-requires-2
@@ -149,9 +145,7 @@ block-loop-spec =
     pixel-at-requires-4
     mean-of-four-requires
     put-pair-requires
-    add-x
-    mul-i
-    add-i
+    add-pair
     loop-less
     loop-again
     same-length
