@@ -12,5 +12,4 @@ pub mod Fractions
 pub mod Frames
 pub mod Convert
 pub mod Check
-pub mod Examples
 pub mod Table
