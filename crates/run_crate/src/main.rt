@@ -1,10 +1,21 @@
-// Converts frames of every combination that yuvutils-rs 0.8.3 can be driven with and prints them as its loops leave them, the one
-// named fault included. The file `stdout` was written by those loops (docs/CRATE.md).
+// Converts document 01's whole frames and frames of every combination that yuvutils-rs 0.8.3 can be driven with, and prints them as
+// its loops leave them, the one named fault included. The file `stdout` was written by those loops (docs/CRATE.md).
 ghost use Prim.Native.Nat.{_<_};
 use cases::case;
 use cases::case::Case;
 
 mod run;
+
+// Document 01's whole frames: 3×1, and 3×2 with that source row twice.
+fn whole_frames() {
+    let c = case::base();
+    run::run(c);
+    let mut d = c;
+    d.height = 2;
+    d.source = 18;
+    d.luma = 8;
+    run::run(d);
+}
 
 // Every depth, channel layout, subsampling, order, packing and byte order; the rest changes from frame to frame.
 fn combination(t: usize) -> Case
@@ -38,6 +49,7 @@ fn run_combination(t: usize)
 }
 
 fn main() {
+    whole_frames();
     for t in 0..672 {
         run_combination(t);
     }

@@ -10,6 +10,9 @@ Inv-loop t₀ t = t ≤ 672
 abbrev μ-loop : tie.MeasureT-loop
 μ-loop t₀ t = 672 - t
 
+whole-frames-requires : tie.Need-whole-frames-requires Inv-loop μ-loop
+whole-frames-requires c κs = search needs
+
 loop-holds : tie.Need-loop-holds Inv-loop μ-loop
 loop-holds c = search needs
 
@@ -34,6 +37,7 @@ main-spec =
     (tie.spec
     Inv-loop
     μ-loop
+    whole-frames-requires
     loop-holds
     run-combination-requires
     add-t
