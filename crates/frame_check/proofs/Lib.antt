@@ -2,3 +2,4 @@ pub mod Walked
 pub mod Parts
 pub mod Unique
 pub mod Joined
+pub mod Colours

@@ -1,7 +1,7 @@
 -- Row parts: where they lie, and that what they hold is what the buffers hold. Assumes nothing.
-use mathlib.Core.Path.{_≡_, refl, sym, ap, _∙_, subst}
-use mathlib.Core.Bool.{Bool, true, false}
-use mathlib.Core.List.{List, [], _∷_}
+use mathlib.Core.Path.{_≡_, sym, ap, _∙_, subst}
+use mathlib.Core.Bool.{Bool, true}
+use mathlib.Core.List.{List}
 use Prim.Native.Nat.{ℕ, _+_, _-_, _*_, _/_, _≤_, _<_}
 use native.Mathlib.Omega.{arith}
 use lib.ListN.{length, getD, take, drop, length-take, length-drop}
@@ -18,6 +18,7 @@ use Rattle.samples.specs.Tiles.{leftOf, wideAt, topOf, twoAt, tiles}
 use Rattle.samples.proofs.Tiles.{block-tiles, left-below, wide-below}
 use Rattle.frames.specs.Rows.{Rows, rowPixel, Shows}
 use Rattle.frames.proofs.Places.{part-shows}
+use Rattle.frames.proofs.Sources.{tiles-same}
 use Rattle.sample_check.specs.Samples.{pixelRight, blockRight, elementRight, secondOf}
 
 -- n elements from row × stride on lie in a buffer whose bytes a usize counts
@@ -52,14 +53,6 @@ module _ (s : Settings) (k : Named) (f : Frame) (source luma : List ℕ) where
       g ∙ λ i. pixelRight s k (p i) (v i)
 
 -- ---- a row of chroma
-
--- blocks of rows that agree where they are read
-tiles-same : (a b : Bool) (t t′ l l′ : ℕ → Pixel) (x : ℕ) → t x ≡ t′ x → (a ≡ true → t (x + 1) ≡ t′ (x + 1)) → (b ≡ true → l x ≡ l′ x) →
-    (b ≡ true → a ≡ true → l (x + 1) ≡ l′ (x + 1)) → tiles a b t l x ≡ tiles a b t′ l′ x
-tiles-same false false t t′ l l′ x p q r o = λ i. p i ∷ []
-tiles-same true false t t′ l l′ x p q r o = λ i. p i ∷ q refl i ∷ []
-tiles-same false true t t′ l l′ x p q r o = λ i. p i ∷ r refl i ∷ []
-tiles-same true true t t′ l l′ x p q r o = λ i. p i ∷ q refl i ∷ r refl i ∷ o refl refl i ∷ []
 
 -- the second row, where there is one
 second : (two : Bool) (t : ℕ) {u : ℕ} → u ≡ secondOf two t → two ≡ true → u ≡ t + 1

@@ -1,13 +1,10 @@
--- What is said of convert's outcomes and of sources. Statements only.
-use Prim.Native.Nat.{ℕ, _+_, _*_, _<_}
+-- What is said of convert's outcomes. Statements only.
+use Prim.Native.Nat.{ℕ}
 use mathlib.Core.Path.{_≡_}
 use mathlib.Core.List.{List}
-use lib.ListN.{length, getD}
 use Rattle.rules.specs.declared.Settings.{Settings}
 use Rattle.rules.specs.declared.Frame.{Frame}
 use Rattle.rules.specs.declared.Converted.{Converted}
-use Rattle.rules.specs.declared.YuvSourceChannels.{YuvSourceChannels}
-use Rattle.rules.specs.Channels.{Picture, count, redAt, greenAt, blueAt}
 use Rattle.rules.specs.Convert.{convert, lumaAfter, chromaAfter}
 
 -- an answer and two planes that convert's contract admits for an input
@@ -15,20 +12,3 @@ pub record Admitted (s : Settings) (f : Frame) (source luma chroma : List ℕ) (
   pub answer-is : a ≡ convert s f source luma chroma
   pub luma-is : l ≡ lumaAfter s f source luma chroma
   pub chroma-is : c ≡ chromaAfter s f source luma chroma
-
--- a and b agree at the place `at` of each visible pixel
-abbrev pub SameAt : YuvSourceChannels → Frame → ℕ → List ℕ → List ℕ → Type 0
-SameAt c f at a b =
-    (row column : ℕ) → row < f .height → column < f .width
-    → getD a (row * f .«source_stride» + column * count c + at) 0 ≡ getD b (row * f .«source_stride» + column * count c + at) 0
-
--- two sources of one length that agree at every visible colour sample: they differ only in alpha and in padding
-pub record SameColours (c : YuvSourceChannels) (f : Frame) (a b : List ℕ) : Type 0 where
-  pub long : length a ≡ length b
-  pub red : SameAt c f (redAt c) a b
-  pub green : SameAt c f (greenAt c) a b
-  pub blue : SameAt c f (blueAt c) a b
-
--- pictures that agree on the visible pixels
-pub record SamePicture (width height : ℕ) (px px′ : Picture) : Type 0 where
-  pub same : (row x : ℕ) → row < height → x < width → px row x ≡ px′ row x

@@ -1,0 +1,62 @@
+-- Sources that agree at every visible colour sample show one picture: the same refusals of a frame, and the same pixels of a block. Assumes nothing.
+use mathlib.Core.Path.{_≡_, refl, sym, ap, _∙_}
+use mathlib.Core.Bool.{Bool, true, false}
+use mathlib.Core.List.{List, [], _∷_}
+use Prim.Native.Nat.{ℕ, _+_, _/_, _<_}
+use Rattle.rules.specs.declared.Settings.{Settings}
+use Rattle.rules.specs.declared.Frame.{Frame}
+use Rattle.rules.specs.declared.Pixel.{Pixel}
+use Rattle.rules.specs.declared.YuvSourceChannels.{YuvSourceChannels}
+use Rattle.rules.specs.declared.YuvChromaSubsampling.{YuvChromaSubsampling}
+use Rattle.rules.specs.declared.Refusal.the-variants.{Size, Stride, Length, TooLarge}
+use Rattle.rules.specs.Ranges.{most}
+use Rattle.rules.specs.Channels.{Picture, picture}
+use Rattle.rules.specs.Blocks.{block, chromaWidth, chromaHeight}
+use Rattle.rules.specs.Refusals.{line}
+use Rattle.rules.specs.Frames.{sizeOff, strideOff, lengthOff, highAt, tooLargeAt, isFound, frameLines}
+use Rattle.plane_laws.proofs.Firsts.{first-ext}
+use Rattle.samples.specs.Tiles.{leftOf, wideAt, topOf, twoAt, tiles}
+use Rattle.samples.proofs.Tiles.{block-tiles, left-below, wide-below, top-below, two-below}
+use Rattle.frames.specs.Sources.{SameColours, SamePicture}
+
+pub pictures : (c : YuvSourceChannels) (f : Frame) (a b : List ℕ) → SameColours c f a b → SamePicture (f .width) (f .height) (picture c (f .«source_stride») a) (picture c (f .«source_stride») b)
+pictures c f a b h =
+    record { same = λ row x p q. λ i. record { red = h .red row x p q i; green = h .green row x p q i; blue = h .blue row x p q i } }
+
+-- blocks of rows that agree where they are read
+pub tiles-same : (a b : Bool) (t t′ l l′ : ℕ → Pixel) (x : ℕ) → t x ≡ t′ x → (a ≡ true → t (x + 1) ≡ t′ (x + 1)) → (b ≡ true → l x ≡ l′ x) →
+    (b ≡ true → a ≡ true → l (x + 1) ≡ l′ (x + 1)) → tiles a b t l x ≡ tiles a b t′ l′ x
+tiles-same false false t t′ l l′ x p q r o = λ i. p i ∷ []
+tiles-same true false t t′ l l′ x p q r o = λ i. p i ∷ q refl i ∷ []
+tiles-same false true t t′ l l′ x p q r o = λ i. p i ∷ r refl i ∷ []
+tiles-same true true t t′ l l′ x p q r o = λ i. p i ∷ q refl i ∷ r refl i ∷ o refl refl i ∷ []
+
+module _ (f : Frame) (px px′ : Picture) (h : SamePicture (f .width) (f .height) px px′) where
+  pub same-scan : (m : ℕ) → tooLargeAt m f px ≡ tooLargeAt m f px′
+  unfolding tooLargeAt
+  same-scan m = first-ext (f .height) _ _ (λ row b. first-ext (f .width) _ _ (λ x l. ap (highAt m row x) (h .same row x b l)))
+
+  pub same-block : (sub : YuvChromaSubsampling) (row e : ℕ) → row < chromaHeight sub (f .height) → e < chromaWidth sub (f .width)
+      → block sub (f .width) (f .height) px row (e / 2) ≡ block sub (f .width) (f .height) px′ row (e / 2)
+  same-block sub row e b l =
+      let t = topOf sub row in
+      let x = leftOf sub (e / 2) in
+      let upper = h .same t in
+      let lower = h .same (t + 1) in
+      let inside = left-below sub (f .width) e l in
+      let beside = wide-below sub (f .width) x in
+      let above = top-below sub (f .height) row b in
+      let below = two-below sub (f .height) t in
+      block-tiles sub (f .width) (f .height) px row (e / 2)
+      ∙ tiles-same (wideAt sub (f .width) x) (twoAt sub (f .height) t) (px t) (px′ t) (px (t + 1)) (px′ (t + 1)) x
+      (upper x above inside) (λ w. upper (x + 1) above (beside w)) (λ two. lower x (below two) inside) (λ two w. lower (x + 1) (below two) (beside w))
+      ∙ sym (block-tiles sub (f .width) (f .height) px′ row (e / 2))
+
+-- the table's lines for a frame
+pub same-lines : (s : Settings) (f : Frame) (a b : List ℕ) (luma chroma : ℕ) → SameColours (s .channels) f a b → frameLines s f a luma chroma ≡ frameLines s f b luma chroma
+same-lines s f a b luma chroma h =
+    λ i. line Size (sizeOff f) ∷
+    line Stride (strideOff s f) ∷
+    line Length (lengthOff s f (h .long i) luma chroma) ∷
+    line TooLarge (isFound (same-scan f _ _ (pictures (s .channels) f a b h) (most (s .depth)) i)) ∷
+    []
