@@ -1,11 +1,12 @@
 -- Rows and pictures of which no sample exceeds m, and that nothing is found in them. Assumes nothing.
-use mathlib.Core.Path.{_≡_, ap, _∙_, subst}
+use mathlib.Core.Path.{_≡_, sym, ap, _∙_, subst}
 use mathlib.Core.List.{List}
 use Prim.Native.Nat.{ℕ, _+_, _*_, _%_, _≤_, _<_}
-use native.Mathlib.Nat.{le-trans, mul-add-mod-self-right, mod-eq-of-lt}
+use native.Mathlib.Nat.{le-trans, mul-mod-left, mul-add-mod-self-right, mod-eq-of-lt}
 use native.Mathlib.Omega.{arith}
 use lib.ListN.{length, getD}
 use borrow.Author.Tests.{le-ltb}
+use borrow.Author.Count.{below-more}
 use Rattle.rules.specs.declared.Frame.{Frame}
 use Rattle.rules.specs.declared.Pixel.{Pixel}
 use Rattle.rules.specs.declared.YuvSourceChannels.{YuvSourceChannels}
@@ -16,7 +17,8 @@ use Rattle.rule_laws.specs.Codes.{Low}
 use Rattle.plane_laws.proofs.Tables.{step-le}
 use Rattle.plane_laws.proofs.Firsts.{none-all}
 use Rattle.frames.specs.Rows.{rowPixel, Shows, LowRow, LowPicture}
-use Rattle.frames.specs.Bounds.{BoundsAt, Bounds, LowRows}
+use Rattle.frames.specs.SourceRows.{SourceRow}
+use Rattle.frames.specs.Bounds.{Alike, BoundsAt, Bounds, LowFour}
 use Rattle.frames.proofs.Places.{places}
 
 -- ---- what is low
@@ -40,30 +42,38 @@ placed-low c m width part fits h =
           record { red = h x _ b (k .red) (omega (arith, k .red)); green = h x _ b (k .green) (omega (arith, k .green)); blue = h x _ b (k .blue) (omega (arith, k .blue)) };
     }
 
--- four parts of one length, of whose elements but for those at phase 0 a bound is known
-module _ (c : YuvSourceChannels) (m width start step : ℕ) (o p q r : List ℕ) (fits : width * count c ≤ length o) (ep : length p ≡ length o) (eq : length q ≡ length o) (er : length r ≡ length o)
-    (h : Bounds m start step o p q r (length o)) (phase : (x k : ℕ) → k < 3 → 0 < (start + (x * count c + k + 1) * step) % 65536) where
-  at : (x k : ℕ) → k < 3 → x * count c + k < length o → BoundsAt m o p q r (x * count c + k)
-  at x k l i = h .each (x * count c + k) i (phase x k l)
-
-  pub rows-low : LowRows m c width o p q r
-  rows-low =
+-- four rows of a source, side by side
+module _ {c : YuvSourceChannels} {f : Frame} {source : List ℕ} {i j k l : ℕ} {o p q r : List ℕ} (one : SourceRow c f source i o) (two : SourceRow c f source j p) (three : SourceRow c f source k q) (four : SourceRow c f source l r) where
+  pub alike : Alike (count c) o p q r
+  alike =
       record {
-        first = placed-low c m width o fits (λ x k b l i. at x k l i .first);
-        second = placed-low c m width p (omega (arith, fits, ep)) (λ x k b l i. at x k l (omega (arith, i, ep)) .second);
-        third = placed-low c m width q (omega (arith, fits, eq)) (λ x k b l i. at x k l (omega (arith, i, eq)) .third);
-        fourth = placed-low c m width r (omega (arith, fits, er)) (λ x k b l i. at x k l (omega (arith, i, er)) .fourth);
+        whole = ap (λ (n : ℕ). n % count c) (one .long) ∙ mul-mod-left (f .width) (count c);
+        second = two .long ∙ sym (one .long);
+        third = three .long ∙ sym (one .long);
+        fourth = four .long ∙ sym (one .long);
       }
 
--- where alpha stands at phase 0, no colour does; where there is none, the phase is never 0
-pub alpha-phase : (c : YuvSourceChannels) → count c ≡ 4 → (x k : ℕ) → k < 3 → 0 < (0 + (x * count c + k + 1) * 16384) % 65536
-alpha-phase c four x k l =
-    let d : x * count c ≡ x * 4 = ap (λ (n : ℕ). x * n) four in
-    let e : 0 + (x * count c + k + 1) * 16384 ≡ x * 65536 + (k + 1) * 16384 = omega (arith, d) in
-    let q = ap (λ (n : ℕ). n % 65536) e ∙ mul-add-mod-self-right x 65536 ((k + 1) * 16384) ∙ mod-eq-of-lt (omega arith) in omega (arith, q)
+  -- a bound of their colour samples
+  module _ {m : ℕ} (h : Bounds m (count c) o p q r) where
+    at : (x d : ℕ) → d < 3 → x * count c + d < f .width * count c → BoundsAt m o p q r (x * count c + d)
+    at x d b inside =
+        let e = mul-add-mod-self-right x (count c) d ∙ mod-eq-of-lt (omega (arith, places c .least)) in
+        h .each (x * count c + d) (omega (arith, one .long)) (omega (arith, e))
 
-pub no-phase : (i : ℕ) → 0 < (1 + (i + 1) * 0) % 65536
-no-phase i = omega arith
+    low : {row : ℕ} {part : List ℕ} → SourceRow c f source row part → ((n : ℕ) → BoundsAt m o p q r n → getD part n 0 ≤ m) → LowRow m (picture c (f .«source_stride») source row) (f .width)
+    low {row} {part} s e =
+        row-shown (s .shows) (placed-low c m (f .width) part (omega (arith, s .long)) (λ x d w b inside. e _ (at x d b (omega (arith, inside, s .long)))))
+
+    -- where each is the next row, or there is no such row
+    pub low-four : (i + 1 < f .height → j ≡ i + 1) → (i + 2 < f .height → k ≡ i + 2) → (i + 3 < f .height → l ≡ i + 3) → LowFour m (picture c (f .«source_stride») source) (f .width) (f .height) i
+    low-four second third fourth =
+        let Row : ℕ → Type 0 = λ n. LowRow m (picture c (f .«source_stride») source n) (f .width) in
+        let Next : ℕ → Type 0 = λ n. i ≤ n → n < f .height → Row n in
+        let a : (n : ℕ) → n < i + 1 → Next n = below-more Next i (λ n below from. absurd (omega (arith, below, from))) (λ from within. low one (λ n b. b .first)) in
+        let b : (n : ℕ) → n < i + 1 + 1 → Next n = below-more Next (i + 1) a (λ from within. subst Row (second within) (low two (λ n b. b .second))) in
+        let d : (n : ℕ) → n < i + 1 + 1 + 1 → Next n = below-more Next (i + 1 + 1) b (λ from within. subst Row (omega (arith, third (omega (arith, within)))) (low three (λ n b. b .third))) in
+        let e : (n : ℕ) → n < i + 1 + 1 + 1 + 1 → Next n = below-more Next (i + 1 + 1 + 1) d (λ from within. subst Row (omega (arith, fourth (omega (arith, within)))) (low four (λ n b. b .fourth))) in
+        record { low = λ n from below within. e n (omega (arith, below)) from within }
 
 -- every element of a source
 pub all-low : (c : YuvSourceChannels) (m stride width height : ℕ) (source : List ℕ) → ((i : ℕ) → getD source i 0 ≤ m) → LowPicture m (picture c stride source) width height
@@ -74,9 +84,12 @@ all-low c m stride width height source h = record { low = λ row b. record { low
 pixel-nothing : (m row x : ℕ) (p : Pixel) → Low m p → highAt m row x p ≡ Nothing
 pixel-nothing m row x p l = rw (le-ltb m (p .red) (l .red), le-ltb m (p .green) (l .green), le-ltb m (p .blue) (l .blue))
 
-pub row-nothing : (m row width : ℕ) (p : ℕ → Pixel) → LowRow m p width → firstBelow width (λ x. highAt m row x (p x)) ≡ Nothing
+row-nothing : (m row width : ℕ) (p : ℕ → Pixel) → LowRow m p width → firstBelow width (λ x. highAt m row x (p x)) ≡ Nothing
 row-nothing m row width p l = none-all width _ (λ x b. pixel-nothing m row x (p x) (l .low x b))
+
+pub rows-nothing : (m width rows : ℕ) (px : Picture) → LowPicture m px width rows → firstBelow rows (λ row. firstBelow width (λ x. highAt m row x (px row x))) ≡ Nothing
+rows-nothing m width rows px l = none-all rows _ (λ row b. row-nothing m row width (px row) (l .low row b))
 
 pub picture-nothing : (m : ℕ) (f : Frame) (px : Picture) → LowPicture m px (f .width) (f .height) → tooLargeAt m f px ≡ Nothing
 unfolding tooLargeAt
-picture-nothing m f px l = none-all (f .height) _ (λ row b. row-nothing m row (f .width) (px row) (l .low row b))
+picture-nothing m f px l = rows-nothing m (f .width) (f .height) px l

@@ -1,5 +1,5 @@
--- `frames::scan::row_high` meets its contract: nothing is to be found where no sample is too large, and nothing was found at the pixels passed. Assumes nothing.
-use mathlib.Core.Path.{_≡_, refl, sym, ap, _∙_}
+-- `frames::scan::row_high` meets its contract: nothing was found at the pixels passed. Assumes nothing.
+use mathlib.Core.Path.{_≡_, sym, ap, _∙_}
 use mathlib.Core.Bool.{Bool}
 use Prim.Native.Nat.{ℕ, _-_, _≤_, _<_}
 use native.Mathlib.Omega.{arith}
@@ -7,7 +7,6 @@ use Rattle.rules.specs.declared.Search.the-variants.{Nothing}
 use Rattle.rules.specs.Frames.{firstBelow, highAt, isFound}
 use Rattle.plane_laws.proofs.Firsts.{none-yet, none-more, found-first}
 use Rattle.frames.specs.Rows.{rowPixel}
-use Rattle.frames.proofs.Lows.{row-less, row-nothing}
 use Rattle.frames.proofs.scan.row_high.Statement.{statement}
 use Rattle.frames.proofs.scan.row_high.Tie as tie
 
@@ -18,27 +17,21 @@ abbrev μ-loop : tie.MeasureT-loop
 μ-loop m channels width row part x₀ x = width - x
 
 -- the pixel of this turn lies in the row
-spot : (c : tie.In-loop Inv-loop μ-loop) → c .before .loop .x < c .before .before .before .before .before .args .width
+spot : (c : tie.In-loop Inv-loop μ-loop) → c .before .loop .x < c .before .before .before .args .width
 spot c = omega arith
 
 -- what was found at this pixel, said of the row part
-told : (c : tie.After-high-at Inv-loop μ-loop) → let v = c .before .before .before .before .before .before .before .args in let x = c .before .before .before .loop .x in c .high-at .result ≡ highAt (v .m) (v .row) x (rowPixel (v .channels) (v .part .now) x)
-told c = let v = c .before .before .before .before .before .before .before .args in c .high-at .ensures ∙ ap (highAt (v .m) (v .row) (c .before .before .before .loop .x)) (c .before .row-pixel .ensures)
+told : (c : tie.After-high-at Inv-loop μ-loop) → let v = c .before .before .before .before .before .args in let x = c .before .before .before .loop .x in c .high-at .result ≡ highAt (v .m) (v .row) x (rowPixel (v .channels) (v .part .now) x)
+told c = let v = c .before .before .before .before .before .args in c .high-at .ensures ∙ ap (highAt (v .m) (v .row) (c .before .before .before .loop .x)) (c .before .row-pixel .ensures)
 
-asked : (c : tie.After-is-found Inv-loop μ-loop) (t : Bool) → c .is-found .result ≡ t → let v = c .before .before .before .before .before .before .before .before .args in let x = c .before .before .before .before .loop .x in isFound (highAt (v .m) (v .row) x (rowPixel (v .channels) (v .part .now) x)) ≡ t
+asked : (c : tie.After-is-found Inv-loop μ-loop) (t : Bool) → c .is-found .result ≡ t → let v = c .before .before .before .before .before .before .args in let x = c .before .before .before .before .loop .x in isFound (highAt (v .m) (v .row) x (rowPixel (v .channels) (v .part .now) x)) ≡ t
 asked c t h = sym (c .is-found .ensures ∙ ap isFound (told (c .before))) ∙ h
-
-rows-most-requires : tie.Need-rows-most-requires Inv-loop μ-loop
-rows-most-requires c κs = (c .before .pre, (refl, refl, refl))
-
-returns : tie.Need-returns Inv-loop μ-loop
-returns c = sym (row-nothing _ _ _ _ (row-less (c .if1 .taken) (c .before .rows-most .ensures .first)))
 
 loop-holds : tie.Need-loop-holds Inv-loop μ-loop
 loop-holds c = (omega arith, none-yet _)
 
 row-pixel-requires : tie.Need-row-pixel-requires Inv-loop μ-loop
-row-pixel-requires c κs = (spot c, c .before .before .before .before .before .pre)
+row-pixel-requires c κs = (spot c, c .before .before .before .pre)
 
 high-at-requires : tie.Need-high-at-requires Inv-loop μ-loop
 high-at-requires c κs = tt
@@ -46,8 +39,8 @@ high-at-requires c κs = tt
 is-found-requires : tie.Need-is-found-requires Inv-loop μ-loop
 is-found-requires c κs = tt
 
-returns-2 : tie.Need-returns-2 Inv-loop μ-loop
-returns-2 c = told (c .before .before) ∙ sym (found-first _ _ (c .before .before .before .before .before .loop .x) (spot (c .before .before .before .before)) (c .before .before .before .before .before .loop .inv .1) (asked (c .before) _ (c .if2 .taken)))
+returns : tie.Need-returns Inv-loop μ-loop
+returns c = told (c .before .before) ∙ sym (found-first _ _ (c .before .before .before .before .before .loop .x) (spot (c .before .before .before .before)) (c .before .before .before .before .before .loop .inv .1) (asked (c .before) _ (c .if1 .taken)))
 
 add-x : tie.Need-add-x Inv-loop μ-loop
 add-x c = omega arith
@@ -56,11 +49,11 @@ loop-less : tie.Need-loop-less Inv-loop μ-loop
 loop-less c = omega arith
 
 loop-again : tie.Need-loop-again Inv-loop μ-loop
-loop-again c = (omega arith, none-more _ (c .before .before .before .before .before .loop .x) (c .before .before .before .before .before .loop .inv .1) (asked (c .before) _ (c .if2 .left)))
+loop-again c = (omega arith, none-more _ (c .before .before .before .before .before .loop .x) (c .before .before .before .before .before .loop .inv .1) (asked (c .before) _ (c .if1 .left)))
 
-returns-3 : tie.Need-returns-3 Inv-loop μ-loop
-returns-3 c =
-    let v = c .before .before .before .before .before .args in
+returns-2 : tie.Need-returns-2 Inv-loop μ-loop
+returns-2 c =
+    let v = c .before .before .before .args in
     let e : c .before .loop .x ≡ v .width = omega arith in
     sym (ap (λ (n : ℕ). firstBelow n (λ i. highAt (v .m) (v .row) i (rowPixel (v .channels) (v .part .now) i))) (sym e) ∙ c .before .loop .inv .1)
 
@@ -70,14 +63,12 @@ row-high-spec =
     (tie.spec
     Inv-loop
     μ-loop
-    rows-most-requires
-    returns
     loop-holds
     row-pixel-requires
     high-at-requires
     is-found-requires
-    returns-2
+    returns
     add-x
     loop-less
     loop-again
-    returns-3)
+    returns-2)

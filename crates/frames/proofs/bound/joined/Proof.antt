@@ -1,8 +1,8 @@
--- `frames::scan::joined` meets its contract: what a and b have in common is at most either, and the rest of their sum is the result. Assumes nothing.
+-- `frames::bound::joined` meets its contract: what a and b have in common is at most either, and the rest of their sum is the result. Assumes nothing.
 use native.Mathlib.Omega.{arith}
 use lib.Bits.{or-add-and, and-le-l, and-le-r}
-use Rattle.frames.proofs.scan.joined.Statement.{statement}
-use Rattle.frames.proofs.scan.joined.Tie as tie
+use Rattle.frames.proofs.bound.joined.Statement.{statement}
+use Rattle.frames.proofs.bound.joined.Tie as tie
 
 returns : tie.Need-returns
 returns c =
