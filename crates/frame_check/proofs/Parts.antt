@@ -10,16 +10,14 @@ use Rattle.rules.specs.declared.Settings.{Settings}
 use Rattle.rules.specs.declared.Named.{Named}
 use Rattle.rules.specs.declared.Frame.{Frame}
 use Rattle.rules.specs.declared.Pixel.{Pixel}
-use Rattle.rules.specs.declared.YuvSourceChannels.{YuvSourceChannels}
-use Rattle.rules.specs.Channels.{Picture, count, isU, picture}
+use Rattle.rules.specs.Channels.{Picture, isU, picture}
 use Rattle.rules.specs.Blocks.{chromaWidth}
 use Rattle.rules.specs.Check.{chromaRight, lumaTest, chromaTest}
-use Rattle.samples.specs.Tiles.{leftOf, wideAt, topOf, twoAt, tiles}
-use Rattle.samples.proofs.Tiles.{block-tiles, left-below, wide-below}
+use Rattle.samples.specs.Tiles.{leftOf, wideAt, topOf, twoAt, secondOf, tiles}
+use Rattle.samples.proofs.Tiles.{block-tiles, left-below, wide-below, tiles-same}
 use Rattle.frames.specs.Rows.{Rows, rowPixel, Shows}
-use Rattle.frames.proofs.Places.{part-shows}
-use Rattle.frames.proofs.Sources.{tiles-same}
-use Rattle.sample_check.specs.Samples.{pixelRight, blockRight, elementRight, secondOf}
+use Rattle.frames.specs.SourceRows.{SourceRow}
+use Rattle.sample_check.specs.Samples.{pixelRight, blockRight, elementRight}
 
 -- n elements from row × stride on lie in a buffer whose bytes a usize counts
 pub record Part (long stride row n : ℕ) : Type 0 where
@@ -39,18 +37,14 @@ part-long xs a n h = simp (length-take, length-drop) (omega arith)
 part-at : (xs : List ℕ) (a n e : ℕ) → e < n → getD (part xs a n) e 0 ≡ getD xs (a + e) 0
 part-at xs a n e h = getD-take (a + n - a) (drop a xs) e 0 (omega arith) ∙ getD-drop a xs e 0
 
-row-shows : (c : YuvSourceChannels) (source : List ℕ) (stride width row n : ℕ) → n ≡ width * count c → Shows c (part source (row * stride) n) (picture c stride source) row width
-row-shows c source stride width row n e = part-shows c source stride width row (row * stride + n - row * stride) (omega (arith, e))
-
 -- ---- a row of luma
 module _ (s : Settings) (k : Named) (f : Frame) (source luma : List ℕ) where
-  pub luma-shown : (row e n : ℕ) {r : Bool} → n ≡ f .width * count (s .channels) → e < f .width →
-      r ≡ pixelRight s k (rowPixel (s .channels) (part source (row * f .«source_stride») n) e) (getD (part luma (row * f .«luma_stride») (f .width)) e 0) →
+  pub luma-shown : (row e : ℕ) (line : List ℕ) {r : Bool} → SourceRow (s .channels) f source row line → e < f .width →
+      r ≡ pixelRight s k (rowPixel (s .channels) line e) (getD (part luma (row * f .«luma_stride») (f .width)) e 0) →
       r ≡ lumaTest s k f (picture (s .channels) (f .«source_stride») source) luma row e
-  luma-shown row e n w h g =
-      let p = row-shows (s .channels) source (f .«source_stride») (f .width) row n w .same e h in
+  luma-shown row e line p h g =
       let v = part-at luma (row * f .«luma_stride») (f .width) e h in
-      g ∙ λ i. pixelRight s k (p i) (v i)
+      g ∙ λ i. pixelRight s k (p .shows .same e h i) (v i)
 
 -- ---- a row of chroma
 
@@ -78,15 +72,12 @@ module _ (s : Settings) (k : Named) (width height : ℕ) (px : Picture) (t u : �
       ∙ sym (block-tiles sub width height px row (e / 2)))
 
 module _ (s : Settings) (k : Named) (f : Frame) (source chroma : List ℕ) where
-  pub chroma-shown : (row e n t u : ℕ) (two : Bool) {r : Bool} → t ≡ topOf (s .subsampling) row → two ≡ twoAt (s .subsampling) (f .height) t → u ≡ secondOf two t →
-      n ≡ f .width * count (s .channels) → (d : ℕ) → d ≡ chromaWidth (s .subsampling) (f .width) → e < d →
-      r ≡ elementRight s k (f .width) two (rowPixel (s .channels) (part source (t * f .«source_stride») n)) (rowPixel (s .channels) (part source (u * f .«source_stride») n)) e
-      (getD (part chroma (row * f .«chroma_stride») d) e 0) →
+  pub chroma-shown : (row e t u : ℕ) (two : Bool) (top low : List ℕ) {r : Bool} → t ≡ topOf (s .subsampling) row → two ≡ twoAt (s .subsampling) (f .height) t → u ≡ secondOf two t →
+      SourceRow (s .channels) f source t top → SourceRow (s .channels) f source u low → (d : ℕ) → d ≡ chromaWidth (s .subsampling) (f .width) → e < d →
+      r ≡ elementRight s k (f .width) two (rowPixel (s .channels) top) (rowPixel (s .channels) low) e (getD (part chroma (row * f .«chroma_stride») d) e 0) →
       r ≡ chromaTest s k f (picture (s .channels) (f .«source_stride») source) chroma row e
-  chroma-shown row e n t u two et eb eu w d q l g =
-      let ch = s .channels in
-      let stride = f .«source_stride» in
+  chroma-shown row e t u two top low et eb eu upper lower d q l g =
+      let px = picture (s .channels) (f .«source_stride») source in
       g
-      ∙ element-shown s k (f .width) (f .height) (picture ch stride source) t u two _ _
-      (row-shows ch source stride (f .width) t n w) (row-shows ch source stride (f .width) u n w) row e _ et eb eu (subst (λ (m : ℕ). e < m) q l)
-      ∙ ap (chromaRight s k (f .width) (f .height) (picture ch stride source) row e) (part-at chroma (row * f .«chroma_stride») d e l)
+      ∙ element-shown s k (f .width) (f .height) px t u two top low (upper .shows) (lower .shows) row e _ et eb eu (subst (λ (m : ℕ). e < m) q l)
+      ∙ ap (chromaRight s k (f .width) (f .height) px row e) (part-at chroma (row * f .«chroma_stride») d e l)

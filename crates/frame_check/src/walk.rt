@@ -9,15 +9,14 @@ ghost use Rattle.frames.specs.Rows.{Rows};
 ghost use Rattle.frames.specs.Tests.{Sized};
 ghost use Rattle.sample_check.specs.Judging.{Judging};
 ghost use Rattle.frame_check.specs.Walks.{Finds};
+use frames::rows;
 use row_check::passed;
 use rules::Frame;
 use rules::Named;
 use rules::Settings;
 use sample_check::judge::Judge;
 use sample_check::row;
-use sample_check::sample;
 use samples::blocks;
-use yuv_support::channels;
 
 // What a walk yields: nothing wrong, or the row and the element of the first wrong sample.
 pub enum Found {
@@ -36,18 +35,16 @@ pub fn walk_luma(s: Settings, k: Named, j: Judge, f: Frame, source: &[u16], luma
     let channels = s.channels;
     let width = f.width;
     let height = f.height;
-    let across = width * channels::get_channels_count(channels);
+    let stride = f.luma_stride;
     let mut row = 0;
     'walk: loop {
         if row == height {
             break 'walk Found::Nothing;
         }
-        let source_from = row * f.source_stride;
-        let source_to = source_from + across;
-        let line = &source[source_from..source_to];
-        let luma_from = row * f.luma_stride;
-        let luma_to = luma_from + width;
-        let samples = &luma[luma_from..luma_to];
+        let line = rows::source_row(channels, f, source, row);
+        let from = row * stride;
+        let to = from + width;
+        let samples = &luma[from..to];
         let passed = passed::luma_passed(s, k, j, width, line, samples);
         for column in passed..width {
             if !row::luma_at(s, k, j, width, line, samples, column) {
@@ -77,7 +74,7 @@ pub fn walk_chroma(
     let subsampling = s.subsampling;
     let width = f.width;
     let height = f.height;
-    let across = width * channels::get_channels_count(channels);
+    let stride = f.chroma_stride;
     let wide = blocks::chroma_width(subsampling, width);
     let rows = blocks::chroma_height(subsampling, height);
     let mut row = 0;
@@ -87,15 +84,11 @@ pub fn walk_chroma(
         }
         let t = blocks::top(subsampling, row);
         let two = blocks::two(subsampling, height, t);
-        let top_from = t * f.source_stride;
-        let top_to = top_from + across;
-        let top = &source[top_from..top_to];
-        let low_from = sample::second(two, t) * f.source_stride;
-        let low_to = low_from + across;
-        let low = &source[low_from..low_to];
-        let chroma_from = row * f.chroma_stride;
-        let chroma_to = chroma_from + wide;
-        let samples = &chroma[chroma_from..chroma_to];
+        let top = rows::source_row(channels, f, source, t);
+        let low = rows::source_row(channels, f, source, blocks::second(two, t));
+        let from = row * stride;
+        let to = from + wide;
+        let samples = &chroma[from..to];
         let passed = passed::chroma_passed(s, k, j, width, two, top, low, samples);
         for element in passed..wide {
             if !row::chroma_at(s, k, j, width, two, top, low, samples, element) {

@@ -16,20 +16,12 @@ use Rattle.rules.specs.Refusals.{line}
 use Rattle.rules.specs.Frames.{sizeOff, strideOff, lengthOff, highAt, tooLargeAt, isFound, frameLines}
 use Rattle.plane_laws.proofs.Firsts.{first-ext}
 use Rattle.samples.specs.Tiles.{leftOf, wideAt, topOf, twoAt, tiles}
-use Rattle.samples.proofs.Tiles.{block-tiles, left-below, wide-below, top-below, two-below}
+use Rattle.samples.proofs.Tiles.{block-tiles, left-below, wide-below, top-below, two-below, tiles-same}
 use Rattle.frames.specs.Sources.{SameColours, SamePicture}
 
 pub pictures : (c : YuvSourceChannels) (f : Frame) (a b : List ℕ) → SameColours c f a b → SamePicture (f .width) (f .height) (picture c (f .«source_stride») a) (picture c (f .«source_stride») b)
 pictures c f a b h =
     record { same = λ row x p q. λ i. record { red = h .red row x p q i; green = h .green row x p q i; blue = h .blue row x p q i } }
-
--- blocks of rows that agree where they are read
-pub tiles-same : (a b : Bool) (t t′ l l′ : ℕ → Pixel) (x : ℕ) → t x ≡ t′ x → (a ≡ true → t (x + 1) ≡ t′ (x + 1)) → (b ≡ true → l x ≡ l′ x) →
-    (b ≡ true → a ≡ true → l (x + 1) ≡ l′ (x + 1)) → tiles a b t l x ≡ tiles a b t′ l′ x
-tiles-same false false t t′ l l′ x p q r o = λ i. p i ∷ []
-tiles-same true false t t′ l l′ x p q r o = λ i. p i ∷ q refl i ∷ []
-tiles-same false true t t′ l l′ x p q r o = λ i. p i ∷ r refl i ∷ []
-tiles-same true true t t′ l l′ x p q r o = λ i. p i ∷ q refl i ∷ r refl i ∷ o refl refl i ∷ []
 
 module _ (f : Frame) (px px′ : Picture) (h : SamePicture (f .width) (f .height) px px′) where
   pub same-scan : (m : ℕ) → tooLargeAt m f px ≡ tooLargeAt m f px′

@@ -8,12 +8,12 @@ use Rattle.rules.specs.declared.Weights.{Weights}
 use Rattle.rules.specs.declared.Pixel.{Pixel}
 use Rattle.rules.specs.Ranges.{biasUV}
 use Rattle.rules.specs.Channels.{Picture, isU}
-use Rattle.rules.specs.Blocks.{averaged, chromaWidth, chromaHeight}
+use Rattle.rules.specs.Blocks.{averaged, chromaWidth}
 use Rattle.rules.specs.Convert.{wordOf, chromaWord}
 use Rattle.tolerance_laws.specs.Chroma.{chromaRow}
 use Rattle.tolerance_laws.proofs.Means.{averaged-one}
 use Rattle.samples.specs.Tiles.{leftOf, wideAt, topOf, twoAt, tiles}
-use Rattle.samples.proofs.Tiles.{block-tiles, left-below, wide-below, top-below, two-below}
+use Rattle.samples.proofs.Tiles.{block-tiles, left-below, wide-below, tiles-same}
 use Rattle.last_column.specs.Words.{pairMean, chromaElement}
 
 -- an element by cases is the word of the rules
@@ -24,15 +24,9 @@ unfolding chromaWord chromaElement
 element-is s w width height px row k =
     ap (λ (b : List Pixel). wordOf s (biasUV (s .depth)) (chromaRow (isU (s .order) k) w) (averaged b)) (block-tiles (s .subsampling) width height px row (k / 2))
 
--- ---- the four forms of a block, as the code makes its mean
+-- ---- a block of one column, as the code makes its mean
 
 module _ (a b : Bool) (t u : ℕ → Pixel) (x : ℕ) where
-  pub four : {z p q v w : Pixel} → a ≡ true → b ≡ true → z ≡ averaged (p ∷ q ∷ v ∷ w ∷ []) → p ≡ t x → q ≡ t (x + 1) → v ≡ u x → w ≡ u (x + 1) → z ≡ averaged (tiles a b t u x)
-  four e f g hp hq hv hw = g ∙ (λ i. averaged (hp i ∷ hq i ∷ hv i ∷ hw i ∷ [])) ∙ sym (λ i. averaged (tiles (e i) (f i) t u x))
-
-  pub across : {z p q : Pixel} → a ≡ true → b ≡ false → z ≡ averaged (p ∷ q ∷ []) → p ≡ t x → q ≡ t (x + 1) → z ≡ averaged (tiles a b t u x)
-  across e f g hp hq = g ∙ (λ i. averaged (hp i ∷ hq i ∷ [])) ∙ sym (λ i. averaged (tiles (e i) (f i) t u x))
-
   pub down : {z p v : Pixel} → a ≡ false → b ≡ true → z ≡ averaged (p ∷ v ∷ []) → p ≡ t x → v ≡ u x → z ≡ averaged (tiles a b t u x)
   down e f g hp hv = g ∙ (λ i. averaged (hp i ∷ hv i ∷ [])) ∙ sym (λ i. averaged (tiles (e i) (f i) t u x))
 
@@ -40,12 +34,6 @@ module _ (a b : Bool) (t u : ℕ → Pixel) (x : ℕ) where
   alone e f hp = hp ∙ sym (averaged-one (t x)) ∙ sym (λ i. averaged (tiles (e i) (f i) t u x))
 
 -- ---- rows of pixels that agree
-
-tiles-ext : (a b : Bool) (t u t′ u′ : ℕ → Pixel) (x : ℕ) → t x ≡ t′ x → (a ≡ true → t (x + 1) ≡ t′ (x + 1)) → (b ≡ true → u x ≡ u′ x) → (b ≡ true → a ≡ true → u (x + 1) ≡ u′ (x + 1)) → tiles a b t u x ≡ tiles a b t′ u′ x
-tiles-ext false false t u t′ u′ x p q r o = λ i. p i ∷ []
-tiles-ext true false t u t′ u′ x p q r o = λ i. p i ∷ q refl i ∷ []
-tiles-ext false true t u t′ u′ x p q r o = λ i. p i ∷ r refl i ∷ []
-tiles-ext true true t u t′ u′ x p q r o = λ i. p i ∷ q refl i ∷ r refl i ∷ o refl refl i ∷ []
 
 -- they give the same elements; the second row counts only where there are two
 pub element-ext : (s : Settings) (w : Weights) (width : ℕ) (two : Bool) (t u t′ u′ : ℕ → Pixel) → ((x : ℕ) → x < width → t x ≡ t′ x) → (two ≡ true → (x : ℕ) → x < width → u x ≡ u′ x)
@@ -56,22 +44,12 @@ element-ext s w width two t u t′ u′ ht hu k h =
     let l = left-below (s .subsampling) width k h in
     let next = wide-below (s .subsampling) width x in
     ap (λ (b : List Pixel). wordOf s (biasUV (s .depth)) (chromaRow (isU (s .order) k) w) (averaged b))
-    (tiles-ext (wideAt (s .subsampling) width x) two t u t′ u′ x (ht x l) (λ e. ht (x + 1) (next e)) (λ g. hu g x l) (λ g e. hu g (x + 1) (next e)))
+    (tiles-same (wideAt (s .subsampling) width x) two t t′ u u′ x (ht x l) (λ e. ht (x + 1) (next e)) (λ g. hu g x l) (λ g e. hu g (x + 1) (next e)))
 
--- pictures that agree on the visible pixels give the same chroma words
-pub chroma-ext : (s : Settings) (w : Weights) (width height : ℕ) (px px′ : Picture) → ((row x : ℕ) → row < height → x < width → px row x ≡ px′ row x)
-    → (row k : ℕ) → row < chromaHeight (s .subsampling) height → k < chromaWidth (s .subsampling) width → chromaWord s w width height px row k ≡ chromaWord s w width height px′ row k
-chroma-ext s w width height px px′ agree row k b h =
-    let top = topOf (s .subsampling) row in
-    element-is s w width height px row k
-    ∙ element-ext s w width (twoAt (s .subsampling) height top) (px top) (px (top + 1)) (px′ top) (px′ (top + 1))
-    (λ x l. agree top x (top-below (s .subsampling) height row b) l) (λ e x l. agree (top + 1) x (two-below (s .subsampling) height top e) l) k h
-    ∙ sym (element-is s w width height px′ row k)
-
--- ---- the elements that a turn of the loop over pairs stores
+-- ---- the elements of a pair, by the mean of its block
 
 module _ (s : Settings) (w : Weights) (width : ℕ) (two : Bool) (t u : ℕ → Pixel) where
-  -- the mean as the loop finds it: its column, and whether the block is wide
+  -- the mean, by the block's first column and whether it has a second
   pub found : {x : ℕ} {wide : Bool} {p : Pixel} (pair : ℕ) → x ≡ leftOf (s .subsampling) pair → wide ≡ wideAt (s .subsampling) width x → p ≡ averaged (tiles wide two t u x) → p ≡ pairMean (s .subsampling) width two t u pair
   found {x} pair ex eb ep = ep ∙ (λ i. averaged (tiles (eb i) two t u x)) ∙ (λ i. averaged (tiles (wideAt (s .subsampling) width (ex i)) two t u (ex i)))
 

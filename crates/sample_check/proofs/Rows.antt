@@ -18,7 +18,7 @@ use Rattle.fractions.specs.declared.Sums.{Sums}
 use Rattle.fractions.specs.Sums.{sumsOf}
 use Rattle.frames.specs.Rows.{rowPixel}
 use Rattle.sample_check.specs.declared.sample.Tile.{Tile}
-use Rattle.sample_check.specs.Samples.{blockRight, Fitting, tiled, tileOf, elementRight, secondOf}
+use Rattle.sample_check.specs.Samples.{blockRight, Fitting, tiled, tileOf, elementRight}
 
 -- the sums of pixels that are those of a block, by the cases that were taken
 pub summed : {a b : Bool} (a′ b′ : Bool) (t l : ℕ → Pixel) (x : ℕ) {r : Sums} {ps : List Pixel} → a ≡ a′ → b ≡ b′ → ps ≡ tiles a′ b′ t l x → r ≡ sumsOf ps → r ≡ sumsOf (tiles a b t l x)
@@ -32,11 +32,6 @@ same-tile s width two pair e f = λ i. record { left = e i; wide = (f ∙ ap (wi
 -- lies in its row
 pub tile-fits : (s : YuvChromaSubsampling) (width : ℕ) (two : Bool) (e : ℕ) → e < chromaWidth s width → Fitting width (tileOf s width two (e / 2))
 tile-fits s width two e h = record { inside = left-below s width e h; beside = wide-below s width (leftOf s (e / 2)) }
-
--- the second column or row of a block lies in the picture
-pub second-below : (two : Bool) (t height : ℕ) {u : ℕ} → u ≡ secondOf two t → t < height → (two ≡ true → t + 1 < height) → u < height
-second-below true t height e h g = omega (arith, g refl)
-second-below false t height e h g = omega arith
 
 -- a U and a V are the first or the second of their pair
 pub u-low : (o : YuvNVOrder) → uAt o ≤ 1

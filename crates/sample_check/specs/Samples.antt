@@ -80,7 +80,3 @@ unfoldable pub elementRight : Settings → Named → ℕ → Bool → (ℕ → P
 elementRight s k width two top low e v =
     let x = leftOf (s .subsampling) (e / 2) in
     blockRight s k (isU (s .order) e) (tiles (wideAt (s .subsampling) width x) two top low x) v
-
--- the second column or row of a block; where there is none, the first again
-abbrev pub secondOf : Bool → ℕ → ℕ
-secondOf two first = cond two (first + 1) first

@@ -7,7 +7,7 @@ ghost use Rattle.rule_laws.specs.Usable.{Reach};
 ghost use Rattle.fractions.specs.Exact.{Small, Exactly};
 ghost use Rattle.fractions.specs.Sums.{sumsOf, ownSum, chromaBy, UpToFour, Modest};
 ghost use Rattle.sample_check.specs.Judging.{Judging};
-ghost use Rattle.sample_check.specs.Samples.{nearBy, rightBy, pixelRight, blockRight, limitFor, ownLimit, Fitting, tiled, secondOf};
+ghost use Rattle.sample_check.specs.Samples.{nearBy, rightBy, pixelRight, blockRight, limitFor, ownLimit, Fitting, tiled};
 use crate::judge::Judge;
 use crate::judge::Limit;
 use crate::judge::Limits;
@@ -28,14 +28,6 @@ pub struct Tile {
     pub left: usize,
     pub wide: bool,
     pub two: bool,
-}
-
-// The second column or row of a block; where there is none, the first again.
-pub fn second(two: bool, first: usize) -> usize
-    requires { ⌜ first < 18446744073709551615 ⌝ }
-    ensures { λ r. ⌜ r ≡ secondOf two first ⌝ }
-{
-    if two { first + 1 } else { first }
 }
 
 // Whether the code of a word is within a bound of an exact value.

@@ -72,6 +72,14 @@ two-below Yuv420 height t e = ltb-true (t + 1) height e
 two-below Yuv422 height t e = absurd (true≢false (sym e))
 two-below Yuv444 height t e = absurd (true≢false (sym e))
 
+-- blocks of rows that agree where they are read
+pub tiles-same : (a b : Bool) (t t′ l l′ : ℕ → Pixel) (x : ℕ) → t x ≡ t′ x → (a ≡ true → t (x + 1) ≡ t′ (x + 1)) → (b ≡ true → l x ≡ l′ x) →
+    (b ≡ true → a ≡ true → l (x + 1) ≡ l′ (x + 1)) → tiles a b t l x ≡ tiles a b t′ l′ x
+tiles-same false false t t′ l l′ x p q r o = λ i. p i ∷ []
+tiles-same true false t t′ l l′ x p q r o = λ i. p i ∷ q refl i ∷ []
+tiles-same false true t t′ l l′ x p q r o = λ i. p i ∷ r refl i ∷ []
+tiles-same true true t t′ l l′ x p q r o = λ i. p i ∷ q refl i ∷ r refl i ∷ o refl refl i ∷ []
+
 -- the second row of a block lies in the picture
 pub second-below : (two : Bool) (t height : ℕ) {u : ℕ} → u ≡ secondOf two t → t < height → (two ≡ true → t + 1 < height) → u < height
 second-below true t height e h g = omega (arith, g refl)

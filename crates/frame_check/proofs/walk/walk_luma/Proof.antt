@@ -1,8 +1,9 @@
 -- `frame_check::walk::walk_luma` meets its contract. Assumes nothing.
 use borrow.Author.Needs.{needs}
-use mathlib.Core.Path.{_≡_, refl, sym, ap, _∙_}
+use mathlib.Core.Path.{_≡_, refl, sym, _∙_}
 use borrow.Author.Tests.{not-true, not-false}
 use mathlib.Core.Bool.{Bool}
+use mathlib.Core.List.{List}
 use Prim.Native.Nat.{ℕ, _-_, _*_, _≤_, _<_}
 use native.Mathlib.Omega.{arith}
 use native.Mathlib.Nat.{lt-of-lt-of-le}
@@ -10,7 +11,6 @@ use lib.ListN.{length, getD}
 use Rattle.rules.specs.Channels.{count, picture}
 use Rattle.rules.specs.Check.{Clean, lumaTest}
 use Rattle.frames.specs.Rows.{rowPixel}
-use Rattle.frames.proofs.Places.{row-small}
 use Rattle.sample_check.specs.Samples.{pixelRight}
 use Rattle.frame_check.proofs.Walked.{CleanRow, row-more, clean-none, clean-more, clean-all, first-wrong}
 use Rattle.frame_check.proofs.Parts.{Part, part-of, part, part-long, luma-shown}
@@ -18,78 +18,43 @@ use Rattle.frame_check.proofs.walk.walk_luma.Statement.{statement}
 use Rattle.frame_check.proofs.walk.walk_luma.Tie as tie
 
 abbrev Inv-loop : tie.InvT-loop
-Inv-loop s k j f source luma width height across row «source_from» «source_to» line «luma_from» «luma_to» samples passed column₀ column =
+Inv-loop s k j f source luma channels width height stride row line from to samples passed column₀ column =
     (column ≤ f .width) × CleanRow (lumaTest s k f (picture (s .channels) (f .«source_stride») source) luma) row column
 
 abbrev μ-loop : tie.MeasureT-loop
-μ-loop s k j f source luma width height across row «source_from» «source_to» line «luma_from» «luma_to» samples passed column₀ column = f .width - column
+μ-loop s k j f source luma channels width height stride row line from to samples passed column₀ column = f .width - column
 
 abbrev Inv-walk : tie.InvT-walk
-Inv-walk s k j f source luma width height across row₀ row =
+Inv-walk s k j f source luma channels width height stride row₀ row =
     (row ≤ f .height) × Clean (lumaTest s k f (picture (s .channels) (f .«source_stride») source) luma) (f .width) row
 
 abbrev μ-walk : tie.MeasureT-walk
-μ-walk s k j f source luma width height across row₀ row = f .height - row
+μ-walk s k j f source luma channels width height stride row₀ row = f .height - row
 
--- the bytes of the buffers are counted by a usize
-source-counted : (c : tie.After-shared-slice-known2 Inv-loop μ-loop Inv-walk μ-walk) → length (c .before .before .args .source .now) * 2 ≤ 18446744073709551615
-source-counted c = omega arith
-
+-- the bytes of the plane are counted by a usize
 luma-counted : (c : tie.After-shared-slice-known2 Inv-loop μ-loop Inv-walk μ-walk) → length (c .before .before .args .luma .now) * 2 ≤ 18446744073709551615
 luma-counted c = omega arith
 
--- the samples of a row
-wide : (c : tie.After-get-channels-count Inv-loop μ-loop Inv-walk μ-walk) → let a = c .before .before .before .args in a .f .width * c .get-channels-count .result ≡ a .f .width * count (a .s .channels)
-wide c = ap (λ (n : ℕ). c .before .before .before .args .f .width * n) (c .get-channels-count .ensures)
-
--- where this turn's rows lie
-line-in : (c : tie.Else1 Inv-loop μ-loop Inv-walk μ-walk) → let g = c .before .before in let a = g .before .before .before .args in
-    Part (length (a .source .now)) (a .f .«source_stride») (c .before .walk .row) (a .f .width * g .get-channels-count .result)
-line-in c =
-    let g = c .before .before in
-    part-of (g .before .before .before .pre .1 .1 .0) (source-counted (g .before)) (omega arith) (wide g)
-
-samples-in : (c : tie.Else1 Inv-loop μ-loop Inv-walk μ-walk) → let g = c .before .before in let a = g .before .before .before .args in
+-- where this turn's row of the plane lies
+samples-in : (c : tie.Else1 Inv-loop μ-loop Inv-walk μ-walk) → let a = c .before .before .before .before .args in
     Part (length (a .luma .now)) (a .f .«luma_stride») (c .before .walk .row) (a .f .width)
 samples-in c =
-    let g = c .before .before in
-    part-of (g .before .before .before .pre .1 .1 .1) (luma-counted (g .before)) (omega arith) refl
-
-get-channels-count-requires : tie.Need-get-channels-count-requires Inv-loop μ-loop Inv-walk μ-walk
-get-channels-count-requires c κs = search needs
-
-mul-across : tie.Need-mul-across Inv-loop μ-loop Inv-walk μ-walk
-mul-across c = let b = c .before .before .before in omega (arith, row-small (b .args .f) (b .args .s .channels) (b .pre .1 .0), wide c)
+    part-of (c .before .before .before .before .pre .1 .1 .1) (luma-counted (c .before .before)) (omega arith) refl
 
 walk-holds : tie.Need-walk-holds Inv-loop μ-loop Inv-walk μ-walk
 walk-holds c = (omega arith, clean-none)
 
-mul-source-from : tie.Need-mul-source-from Inv-loop μ-loop Inv-walk μ-walk
-mul-source-from c = let p = line-in (c .before) in omega (arith, p .end, p .counted)
+source-row-requires : tie.Need-source-row-requires Inv-loop μ-loop Inv-walk μ-walk
+source-row-requires c κs = (c .before .before .before .before .pre .1 .1 .0, omega arith)
 
-add-source-to : tie.Need-add-source-to Inv-loop μ-loop Inv-walk μ-walk
-add-source-to c = let p = line-in (c .before) in omega (arith, p .end, p .counted)
+mul-from : tie.Need-mul-from Inv-loop μ-loop Inv-walk μ-walk
+mul-from c = let p = samples-in (c .before) in omega (arith, p .end, p .counted)
 
-mul-line : tie.Need-mul-line Inv-loop μ-loop Inv-walk μ-walk
-mul-line c = let p = line-in (c .before) in omega (arith, p .end, p .counted)
-
-sub-line : tie.Need-sub-line Inv-loop μ-loop Inv-walk μ-walk
-sub-line c = omega arith
-
-part-line-start : tie.Need-part-line-start Inv-loop μ-loop Inv-walk μ-walk
-part-line-start c = omega arith
-
-part-line-end : tie.Need-part-line-end Inv-loop μ-loop Inv-walk μ-walk
-part-line-end c = line-in (c .before) .end
-
-mul-luma-from : tie.Need-mul-luma-from Inv-loop μ-loop Inv-walk μ-walk
-mul-luma-from c = let p = samples-in (c .before .before .before) in omega (arith, p .end, p .counted)
-
-add-luma-to : tie.Need-add-luma-to Inv-loop μ-loop Inv-walk μ-walk
-add-luma-to c = let p = samples-in (c .before .before .before) in omega (arith, p .end, p .counted)
+add-to : tie.Need-add-to Inv-loop μ-loop Inv-walk μ-walk
+add-to c = let p = samples-in (c .before) in omega (arith, p .end, p .counted)
 
 mul-samples : tie.Need-mul-samples Inv-loop μ-loop Inv-walk μ-walk
-mul-samples c = let p = samples-in (c .before .before .before) in omega (arith, p .end, p .counted)
+mul-samples c = let p = samples-in (c .before) in omega (arith, p .end, p .counted)
 
 sub-samples : tie.Need-sub-samples Inv-loop μ-loop Inv-walk μ-walk
 sub-samples c = omega arith
@@ -98,47 +63,53 @@ part-samples-start : tie.Need-part-samples-start Inv-loop μ-loop Inv-walk μ-wa
 part-samples-start c = omega arith
 
 part-samples-end : tie.Need-part-samples-end Inv-loop μ-loop Inv-walk μ-walk
-part-samples-end c = samples-in (c .before .before .before) .end
+part-samples-end c = samples-in (c .before) .end
+
+-- this turn's row of the source
+line : tie.After-samples Inv-loop μ-loop Inv-walk μ-walk → List ℕ
+line c = c .before .source-row .result .now
 
 -- this turn's row parts hold the row
-long : (c : tie.After-samples Inv-loop μ-loop Inv-walk μ-walk) → let w = c .before .before .before .before .before in let a = w .before .before .before .before .args in
-    (a .f .width ≤ length (part (a .luma .now) (w .walk .row * a .f .«luma_stride») (a .f .width)))
-    × (a .f .width * count (a .s .channels) ≤ length (part (a .source .now) (w .walk .row * a .f .«source_stride») (a .f .width * w .before .get-channels-count .result)))
+long : (c : tie.After-samples Inv-loop μ-loop Inv-walk μ-walk) → let w = c .before .before .before in let a = w .before .before .before .args in
+    (a .f .width ≤ length (part (a .luma .now) (w .walk .row * a .f .«luma_stride») (a .f .width))) × (a .f .width * count (a .s .channels) ≤ length (line c))
+unfolding line
 long c =
-    let t = c .before .before .before .before in
-    let w = t .before in
-    let g = w .before in
-    let a = g .before .before .before .args in
-    let samples = part-long (a .luma .now) (w .walk .row * a .f .«luma_stride») (a .f .width) (samples-in t .end) in
-    let line = part-long (a .source .now) (w .walk .row * a .f .«source_stride») (a .f .width * g .get-channels-count .result) (line-in t .end) in
-    (omega (arith, samples), omega (arith, wide g, line))
+    let w = c .before .before .before in
+    let a = w .before .before .before .args in
+    let samples = part-long (a .luma .now) (w .walk .row * a .f .«luma_stride») (a .f .width) (samples-in (c .before .before) .end) in
+    (omega (arith, samples), omega (arith, c .before .source-row .ensures .long))
 
 -- what a test of an element of the row parts says, of the buffers
-shown : (c : tie.After-samples Inv-loop μ-loop Inv-walk μ-walk) (e : ℕ) {r : Bool} → let w = c .before .before .before .before .before in let a = w .before .before .before .before .args in
+shown : (c : tie.After-samples Inv-loop μ-loop Inv-walk μ-walk) (e : ℕ) {r : Bool} → let w = c .before .before .before in let a = w .before .before .before .args in
     e < a .f .width →
-    r ≡ pixelRight (a .s) (a .k) (rowPixel (a .s .channels) (part (a .source .now) (w .walk .row * a .f .«source_stride») (a .f .width * w .before .get-channels-count .result)) e) (getD (part (a .luma .now) (w .walk .row * a .f .«luma_stride») (a .f .width)) e 0) →
+    r ≡ pixelRight (a .s) (a .k) (rowPixel (a .s .channels) (line c) e) (getD (part (a .luma .now) (w .walk .row * a .f .«luma_stride») (a .f .width)) e 0) →
     r ≡ lumaTest (a .s) (a .k) (a .f) (picture (a .s .channels) (a .f .«source_stride») (a .source .now)) (a .luma .now) (w .walk .row) e
+unfolding line
 shown c e h q =
-    let w = c .before .before .before .before .before in
-    let a = w .before .before .before .before .args in
-    luma-shown (a .s) (a .k) (a .f) (a .source .now) (a .luma .now) (w .walk .row) e (a .f .width * w .before .get-channels-count .result) (wide (w .before)) h q
+    let w = c .before .before .before in
+    let a = w .before .before .before .args in
+    luma-shown (a .s) (a .k) (a .f) (a .source .now) (a .luma .now) (w .walk .row) e (line c) (c .before .source-row .ensures) h q
 
 luma-passed-requires : tie.Need-luma-passed-requires Inv-loop μ-loop Inv-walk μ-walk
-luma-passed-requires c κs = (c .before .before .before .before .before .before .before .before .before .pre .0, long c)
+unfolding line
+luma-passed-requires c κs = (c .before .before .before .before .before .before .pre .0, long c)
 
 loop-holds : tie.Need-loop-holds Inv-loop μ-loop Inv-walk μ-walk
+unfolding line
 loop-holds c = let p = c .luma-passed .ensures in (p .most, record { clean = λ e h. sym (shown (c .before) e (lt-of-lt-of-le h (p .most)) (sym (p .right e h))) })
 
 luma-at-requires : tie.Need-luma-at-requires Inv-loop μ-loop Inv-walk μ-walk
+unfolding line
 luma-at-requires c κs =
     let s = c .before .before .before in
-    let b = s .before .before .before .before .before .before .before .before .before in
+    let b = s .before .before .before .before .before .before in
     let l = long s in
     (b .pre .0 .0, (b .pre .0 .1, (c .loop-test .taken, l .0, l .1)))
 
 -- and what this element's says
-judged : (c : tie.After-luma-at Inv-loop μ-loop Inv-walk μ-walk) → let w = c .before .before .before .before .before .before .before .before .before in let a = w .before .before .before .before .args in
+judged : (c : tie.After-luma-at Inv-loop μ-loop Inv-walk μ-walk) → let w = c .before .before .before .before .before .before .before in let a = w .before .before .before .args in
     c .luma-at .result ≡ lumaTest (a .s) (a .k) (a .f) (picture (a .s .channels) (a .f .«source_stride») (a .source .now)) (a .luma .now) (w .walk .row) (c .before .before .loop .column)
+unfolding line
 judged c = shown (c .before .before .before .before) (c .before .before .loop .column) (c .before .loop-test .taken) (c .luma-at .ensures)
 
 add-column : tie.Need-add-column Inv-loop μ-loop Inv-walk μ-walk
@@ -157,7 +128,7 @@ walk-less : tie.Need-walk-less Inv-loop μ-loop Inv-walk μ-walk
 walk-less c = search needs
 
 walk-again : tie.Need-walk-again Inv-loop μ-loop Inv-walk μ-walk
-walk-again c = (omega arith, clean-more (c .before .before .before .before .before .before .before .before .walk .inv .1) (c .before .loop .inv .1) (c .loop-test .left))
+walk-again c = (omega arith, clean-more (c .before .before .before .before .before .before .walk .inv .1) (c .before .loop .inv .1) (c .loop-test .left))
 
 returns : tie.Need-returns Inv-loop μ-loop Inv-walk μ-walk
 returns c = clean-all (c .before .walk .inv .1) (c .if1 .taken)
@@ -165,7 +136,7 @@ returns c = clean-all (c .before .walk .inv .1) (c .if1 .taken)
 returns-2 : tie.Need-returns-2 Inv-loop μ-loop Inv-walk μ-walk
 returns-2 c =
     let i = c .before .before in
-    let t = i .before .before .before .before .before .before .before in
+    let t = i .before .before .before .before .before in
     first-wrong (omega (arith, t .before .walk .inv .0, t .if1 .left)) (i .loop-test .taken) (t .before .walk .inv .1) (i .before .loop .inv .1) (sym (judged (c .before)) ∙ not-true _ (c .if2 .taken))
 
 pub walk-luma-spec : {M : Type 1} → statement M
@@ -176,17 +147,10 @@ walk-luma-spec =
     μ-loop
     Inv-walk
     μ-walk
-    get-channels-count-requires
-    mul-across
     walk-holds
-    mul-source-from
-    add-source-to
-    mul-line
-    sub-line
-    part-line-start
-    part-line-end
-    mul-luma-from
-    add-luma-to
+    source-row-requires
+    mul-from
+    add-to
     mul-samples
     sub-samples
     part-samples-start
