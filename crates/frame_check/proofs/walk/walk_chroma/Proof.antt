@@ -11,10 +11,9 @@ use lib.ListN.{length, getD}
 use Rattle.rules.specs.Channels.{count, picture}
 use Rattle.rules.specs.Blocks.{chromaWidth, chromaHeight}
 use Rattle.rules.specs.Check.{Clean, chromaTest}
-use Rattle.samples.proofs.Tiles.{height-small, top-below, two-below}
+use Rattle.samples.proofs.Tiles.{height-small, top-below, two-below, second-below}
 use Rattle.frames.specs.Rows.{rowPixel}
 use Rattle.sample_check.specs.Samples.{elementRight}
-use Rattle.samples.proofs.Tiles.{second-below}
 use Rattle.frame_check.proofs.Walked.{CleanRow, row-more, clean-none, clean-more, clean-all, first-wrong}
 use Rattle.frame_check.proofs.Parts.{Part, part-of, part, part-long, chroma-shown}
 use Rattle.frame_check.proofs.walk.walk_chroma.Statement.{statement}
