@@ -1,14 +1,15 @@
 # make lib       build/libayresokum.a and build/libayresokum.so
 # make demo      a temper-colour ramp converted, checked, spoiled and checked again
 # make examples  the programs of examples/, and the header as C99 and as C++17
-# make test      the examples, the calls from Python, and the tests of the Rust crate where cargo is there
-# Each needs the Rattle kit (rt) and a C compiler.
+# make outputs   what the programs have to print, worked out afresh from document 01 (compare/*.py)
+# make test      the examples, the calls from Python, the programs' outputs, and the tests of the Rust crate where cargo is there
+# All but outputs need the Rattle kit (rt) and a C compiler.
 CC ?= cc
 CXX ?= c++
 STRICT = -Wall -Wextra -pedantic -Werror
 RULES = $(shell find crates -name '*.rt' -o -name '*.antt') crates.txt
 
-.PHONY: lib demo examples test clean
+.PHONY: lib demo examples outputs test clean
 
 lib: build/libayresokum.a build/libayresokum.so
 
@@ -32,7 +33,12 @@ examples: build/demo build/whole_frame
 	build/whole_frame | cmp - examples/whole_frame.txt
 	build/demo | cmp - examples/demo.txt
 
-test: examples build/libayresokum.so
+outputs:
+	python3 compare/settings.py crates/run_settings/stdout
+	python3 compare/frames.py crates/run_frames/stdout
+	python3 compare/checks.py crates/run_checks/stdout
+
+test: examples outputs build/libayresokum.so
 	python3 compare/calls.py
 	! command -v cargo > /dev/null || (cd rust && AYRESOKUM_LIB=$(CURDIR)/build cargo test --offline --release)
 
