@@ -1,6 +1,5 @@
-// What the programs share: cases of settings, frames and buffers by numbers; the buffers drawn; both services; lines of text.
+// What the programs share: cases of settings, frames and buffers by numbers; the buffers drawn; lines of text.
 pub mod case;
 pub mod draw;
 pub mod planes;
-pub mod services;
 pub mod text;

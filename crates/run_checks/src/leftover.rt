@@ -1,10 +1,10 @@
 // Rows left over from another frame, 5×4 both: each row of each plane alone, and each with all rows below it.
 ghost use Prim.Native.Nat.{_<_, _≤_};
+use crate::calls;
 use crate::planes;
 use cases::case::Case;
 use cases::draw;
 use cases::planes::start;
-use cases::services;
 use cases::text;
 
 // Rows of a plane: which plane, the first of them, and how many.
@@ -49,10 +49,10 @@ fn try_rows(
 )
     requires { ⌜ (r .first ≤ 4) × (r .count ≤ 4) ⌝ }
 {
-    services::convert(c, source, luma, chroma);
+    calls::convert(c, source, luma, chroma);
     lay(c, luma, chroma, old_luma, old_chroma, r);
     text::line(b"left", &[r.plane, r.first, r.count]);
-    text::answer(services::check(c, source, luma, chroma));
+    text::answer(calls::check(c, source, luma, chroma));
 }
 
 // Each row of a plane alone, and with all rows below it.
@@ -92,7 +92,7 @@ fn try_planes(
     old_luma: &mut [u16],
     old_chroma: &mut [u16],
 ) {
-    services::convert(other, other_source, old_luma, old_chroma);
+    calls::convert(other, other_source, old_luma, old_chroma);
     try_plane(c, source, luma, chroma, old_luma, old_chroma, 0);
     try_plane(c, source, luma, chroma, old_luma, old_chroma, 1);
 }

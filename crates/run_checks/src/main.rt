@@ -4,6 +4,7 @@ ghost use Prim.Native.Nat.{_<_};
 use cases::case;
 use cases::case::Case;
 
+mod calls;
 mod leftover;
 mod pairs;
 mod planes;

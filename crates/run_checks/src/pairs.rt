@@ -1,9 +1,9 @@
 // Every one and every two elements of a converted frame, padding included, with their highest bits changed: the first wrong one is
 // named, and padding is not judged.
+use crate::calls;
 use crate::planes;
 use cases::case::Case;
 use cases::draw;
-use cases::services;
 use cases::text;
 
 // An element of the two planes laid end to end.
@@ -24,11 +24,11 @@ fn flip_second(luma: &mut [u16], chroma: &mut [u16], a: usize, b: usize) {
 }
 
 fn try_pair(c: Case, source: &[u16], luma: &mut [u16], chroma: &mut [u16], a: usize, b: usize) {
-    services::convert(c, source, luma, chroma);
+    calls::convert(c, source, luma, chroma);
     flip(luma, chroma, a);
     flip_second(luma, chroma, a, b);
     text::line(b"pair", &[a, b]);
-    text::answer(services::check(c, source, luma, chroma));
+    text::answer(calls::check(c, source, luma, chroma));
 }
 
 // A frame of 3×2 has at most 22 elements.

@@ -1,8 +1,8 @@
 // Checks planes that nothing was written to, with settings and frames that are refused: each refusal alone, then two at once.
+use crate::calls;
 use cases::case;
 use cases::case::Case;
 use cases::draw;
-use cases::services;
 use cases::text;
 
 fn check(c: Case) {
@@ -14,7 +14,7 @@ fn check(c: Case) {
     let m = draw::within_room(c.luma);
     let k = draw::within_room(c.chroma);
     text::line(b"unwritten", &[]);
-    text::answer(services::check(c, &source[..n], &luma[..m], &chroma[..k]));
+    text::answer(calls::check(c, &source[..n], &luma[..m], &chroma[..k]));
 }
 
 fn check_settings(depth: u32, precision: u32, matrix: u32, width: usize) {

@@ -1,10 +1,10 @@
 // Each of the 65,536 words in turn at one place of a converted frame of 3×3 pixels with one element of padding in each row: how
 // many are accepted, the first and the last of them, and for how many the check names that very place.
+use crate::calls;
 use ayresokum::CheckedNumbers;
 use cases::case::Case;
 use cases::draw;
 use cases::planes::put;
-use cases::services;
 use cases::text;
 
 // A place, and its index in its plane.
@@ -67,11 +67,11 @@ fn check_word(
     v: u16,
 ) -> CheckedNumbers {
     put_word(luma, chroma, spot, v);
-    services::check(c, source, luma, chroma)
+    calls::check(c, source, luma, chroma)
 }
 
 fn try_words(c: Case, source: &[u16], luma: &mut [u16], chroma: &mut [u16], spot: Spot) {
-    services::convert(c, source, luma, chroma);
+    calls::convert(c, source, luma, chroma);
     let mut tally = Tally {
         accepted: 0,
         first: 0,

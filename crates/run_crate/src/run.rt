@@ -1,11 +1,11 @@
 // One frame as the published loops leave it.
 ghost use Prim.Native.Nat.{_≤_};
+use cases::case;
 use cases::case::Case;
 use cases::draw;
 use cases::planes::get;
 use cases::planes::put;
 use cases::planes::start;
-use cases::services;
 use cases::text;
 
 // The fault in one lower row: its last luma is stored at its first element, and the last keeps its old value.
@@ -64,7 +64,13 @@ fn put_planes(c: Case, luma: &mut [u16], chroma: &[u16]) {
 
 // Frames that are refused are left out, since the crate refuses none of them.
 fn convert_and_put(c: Case, source: &[u16], luma: &mut [u16], chroma: &mut [u16]) -> u32 {
-    let number = services::convert(c, source, luma, chroma);
+    let number = ayresokum::ayresokum_convert(
+        case::settings_of(c),
+        case::frame_of(c),
+        source,
+        luma,
+        chroma,
+    );
     if number == 0 {
         put_planes(c, luma, chroma);
     }

@@ -1,22 +1,30 @@
 // One case: a frame converted, the answer and both planes printed; then the planes checked, as written and spoiled.
-ghost use Prim.Native.Nat.{_≤_};
+use cases::case;
 use cases::case::Case;
 use cases::draw;
-use cases::services;
 use cases::text;
 
-fn convert_and_put(c: Case, source: &[u16], luma: &mut [u16], chroma: &mut [u16]) -> u32
-    ensures { λ r. ⌜ r ≤ 18 ⌝ }
-{
-    let number = services::convert(c, source, luma, chroma);
-    text::line(b"answer", &[number as usize]);
+fn convert_and_put(c: Case, source: &[u16], luma: &mut [u16], chroma: &mut [u16]) {
+    let number = ayresokum::ayresokum_convert(
+        case::settings_of(c),
+        case::frame_of(c),
+        source,
+        luma,
+        chroma,
+    );
+    text::line(b"answer", &[text::small(number)]);
     text::plane(b"luma", luma);
     text::plane(b"chroma", chroma);
-    number
 }
 
 fn check_and_put(c: Case, source: &[u16], luma: &[u16], chroma: &[u16]) {
-    text::answer(services::check(c, source, luma, chroma));
+    text::answer(ayresokum::ayresokum_check(
+        case::settings_of(c),
+        case::frame_of(c),
+        source,
+        luma,
+        chroma,
+    ));
 }
 
 // One element of a plane, padding or not, is again what it was before the frame came.
@@ -36,18 +44,13 @@ fn check_spoiled(c: Case, source: &[u16], luma: &mut [u16], chroma: &mut [u16]) 
     check_and_put(c, source, luma, chroma);
 }
 
-fn convert_and_check(c: Case, source: &[u16], luma: &mut [u16], chroma: &mut [u16]) -> u32
-    ensures { λ r. ⌜ r ≤ 18 ⌝ }
-{
-    let number = convert_and_put(c, source, luma, chroma);
+fn convert_and_check(c: Case, source: &[u16], luma: &mut [u16], chroma: &mut [u16]) {
+    convert_and_put(c, source, luma, chroma);
     check_spoiled(c, source, luma, chroma);
-    number
 }
 
-// Runs a case in buffers of its own, of 65,540 elements at most: 0 for done, else the number of the refusal.
-pub fn run(c: Case) -> u32
-    ensures { λ r. ⌜ r ≤ 18 ⌝ }
-{
+// Runs a case in buffers of its own, of 65,540 elements at most.
+pub(crate) fn run(c: Case) {
     text::case(c);
     let source = draw::source_of(c);
     let mut luma = draw::room(7);
@@ -55,5 +58,5 @@ pub fn run(c: Case) -> u32
     let n = draw::within_room(c.source);
     let m = draw::within_room(c.luma);
     let k = draw::within_room(c.chroma);
-    convert_and_check(c, &source[..n], &mut luma[..m], &mut chroma[..k])
+    convert_and_check(c, &source[..n], &mut luma[..m], &mut chroma[..k]);
 }
