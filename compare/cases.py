@@ -5,7 +5,7 @@ from model import TABLE, Frame, Settings
 
 ROOM = 65540
 ROW = (1023, 0, 0, 0, 0, 1023, 1023, 1023, 1023)
-MATRICES = list(TABLE) + [(Fraction(1, 4), Fraction(1, 8)), (Fraction(0), Fraction(0))]
+MATRICES = dict(enumerate(TABLE)) | {5: (Fraction(1, 4), Fraction(1, 8)), 55: (Fraction(0), Fraction(0))}
 
 
 def source_of(depth, seed, length, at, sample):
@@ -27,7 +27,9 @@ class Case:
 
     def __init__(self, line):
         n = [int(word) for word in line.split()[1:]]
-        self.settings = Settings(n[0], n[1], MATRICES[n[2]], n[3] == 1, *n[4:9])
+        # each enumeration's number names a case: range, subsampling, order, packing, byte order, channels
+        self.named = n[2] in MATRICES and all(number < cases for number, cases in zip(n[3:9], (2, 3, 2, 2, 2, 4)))
+        self.settings = Settings(n[0], n[1], MATRICES.get(n[2]), n[3] == 1, *n[4:9])
         self.frame = Frame(*n[9:14])
         self.lengths = [min(length, ROOM) for length in n[14:17]]
         self.seed, self.at, self.sample = n[17:20]

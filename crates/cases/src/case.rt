@@ -57,7 +57,9 @@ pub fn base() -> Case
     }
 }
 
-// Matrix 5 is the pair 1/4, 1/8, which settle accepts, and 6 the pair 0, 0, which it refuses.
+// Stands for matrix 5 with the pair 0, 0, which settle refuses; 5 itself has the pair 1/4, 1/8, which it accepts.
+pub const ZERO_PAIR: u32 = 55;
+
 pub fn settings_of(c: Case) -> SettingsNumbers
     ensures { λ r. ⌜ (r .depth ≡ c .depth) × (r .precision ≡ c .precision) ⌝ }
 {
@@ -74,7 +76,7 @@ pub fn settings_of(c: Case) -> SettingsNumbers
         byte_order: c.byte_order,
         channels: c.channels,
     };
-    if c.matrix == 6 {
+    if c.matrix == ZERO_PAIR {
         n.matrix = 5;
         n.kr = 0.0f32;
         n.kb = 0.0f32;

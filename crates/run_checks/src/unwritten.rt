@@ -41,9 +41,9 @@ fn settings() {
     check_settings(9, 13, 0, 3);
     check_settings(9, 14, 0, 3);
     check_settings(10, 14, 0, 3);
-    check_settings(10, 14, 6, 3);
-    check_settings(10, 13, 6, 3);
-    check_settings(10, 13, 6, 0);
+    check_settings(10, 14, case::ZERO_PAIR, 3);
+    check_settings(10, 13, case::ZERO_PAIR, 3);
+    check_settings(10, 13, case::ZERO_PAIR, 0);
     check_settings(13, 13, 3, 3);
     check_settings(13, 13, 3, 0);
     check_settings(10, 13, 5, 3);

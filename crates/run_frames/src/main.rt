@@ -146,8 +146,8 @@ fn orders() {
     run_settings(9, 13, 0, 3);
     run_settings(17, 14, 0, 0);
     run_settings(10, 0, 0, 3);
-    run_settings(10, 14, 6, 0);
-    run_settings(10, 13, 6, 0);
+    run_settings(10, 14, case::ZERO_PAIR, 0);
+    run_settings(10, 13, case::ZERO_PAIR, 0);
     run_settings(12, 13, 3, 3);
     run_settings(13, 13, 3, 0);
     run_settings(10, 13, 5, 3);
