@@ -1,6 +1,7 @@
 #!/usr/bin/env python3
 """checks.py FILE: works out every line of FILE, the output of the program run_checks, afresh and says which differ."""
 import sys
+from itertools import zip_longest
 
 from cases import Case
 from model import block, check, convert, exact_chroma, exact_luma, pixel, wrong
@@ -71,7 +72,7 @@ def work_out(lines):
 def main():
     lines = open(sys.argv[1]).read().splitlines()
     right = list(work_out(lines))
-    differ = [(a, b) for a, b in zip(lines, right) if a != b]
+    differ = [(a, b) for a, b in zip_longest(lines, right) if a != b]
     for a, b in differ[:10]:
         print(a, '\n should be', b)
     print(f'{len(lines)} lines, {len(differ)} differ')

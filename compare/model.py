@@ -2,6 +2,7 @@
 nearest (ties to even), and whole numbers of any size."""
 import struct
 from fractions import Fraction
+from functools import lru_cache
 
 TABLE = {'Bt601': (2990, 1140), 'Bt709': (2126, 722), 'Bt2020': (2627, 593), 'Smpte240': (2120, 870), 'Bt470_6': (2220, 713)}
 COUNT = (3, 4, 4, 3)
@@ -75,7 +76,9 @@ def code(p, bias, w, pixel):
     return (sum(a * b for a, b in zip(w, pixel)) + bias * 2 ** p + 2 ** (p - 1) - 1) // 2 ** p
 
 
+@lru_cache(maxsize=None)
 def settle(named, pair, full, depth, p):
+    """The number of the refusal, or the nine weights."""
     if not 10 <= depth <= 16:
         return 1
     if not 1 <= p <= 13:
@@ -159,8 +162,10 @@ def frame_refusal(s, f, source, luma, chroma):
         return 8
     if (len(source), len(luma), len(chroma)) != (f.height * f.source_stride, f.height * f.luma_stride, high * f.chroma_stride):
         return 9
-    if any(max(pixel(s, f, source, y, x)) > s.m() for y in range(f.height) for x in range(f.width)):
-        return 10
+    for y in range(f.height):
+        row = source[y * f.source_stride:y * f.source_stride + f.width * COUNT[s.channels]]
+        if any(max(row[place::COUNT[s.channels]]) > s.m() for place in PLACES[s.channels]):
+            return 10
     return 0
 
 

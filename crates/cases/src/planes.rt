@@ -22,10 +22,26 @@ pub fn get(plane: &[u16], at: usize) -> u16
     0
 }
 
-// The index at which one of the first rows starts.
+// The index at which one of the first 32 rows starts.
+fn from(stride: usize, row: usize) -> usize
+    requires { ⌜ row ≤ 32 ⌝ }
+    ensures { λ r. ⌜ r ≤ 2097152 ⌝ }
+{
+    stride % 65536 * row
+}
+
+// The index at which one of the first 8 rows starts.
 pub fn start(stride: usize, row: usize) -> usize
     requires { ⌜ row ≤ 8 ⌝ }
     ensures { λ r. ⌜ r ≤ 524288 ⌝ }
 {
     stride % 65536 * row
+}
+
+// The index of an element in one of the first rows.
+pub fn index(stride: usize, row: usize, element: usize) -> usize
+    requires { ⌜ (row ≤ 32) × (element ≤ 65536) ⌝ }
+    ensures { λ r. ⌜ r ≤ 2162688 ⌝ }
+{
+    from(stride, row) + element
 }

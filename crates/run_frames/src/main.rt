@@ -3,6 +3,7 @@
 ghost use Prim.Native.Nat.{_≤_, _<_};
 use cases::case;
 
+mod high;
 mod run;
 
 // Document 01's whole frames: 3×1 and 3×2.
@@ -230,6 +231,55 @@ fn sweep_depths() {
     }
 }
 
+fn width_of(size: usize) -> usize
+    ensures { λ r. ⌜ r ≤ 37 ⌝ }
+{
+    match size {
+        0 => 37,
+        1 => 8,
+        2 => 19,
+        3 => 33,
+        _ => 16,
+    }
+}
+
+fn height_of(size: usize) -> usize
+    ensures { λ r. ⌜ r ≤ 21 ⌝ }
+{
+    match size {
+        0 => 9,
+        1 => 21,
+        2 => 6,
+        3 => 7,
+        _ => 8,
+    }
+}
+
+// Frames of five sizes in each channel layout, from 8×21 to 37×9, as they are and then with one sample too large.
+fn run_high(t: usize)
+    requires { ⌜ t < 20 ⌝ }
+{
+    let mut c = case::base();
+    c.depth = 10 + (t % 6) as u32;
+    c.matrix = (t % 5) as u32;
+    c.range = 0;
+    c.subsampling = (t % 3) as u32;
+    c.order = (t / 3 % 2) as u32;
+    c.packing = (t / 2 % 2) as u32;
+    c.byte_order = (t / 5 % 2) as u32;
+    c.channels = (t % 4) as u32;
+    c.seed = (t + 500) as u32;
+    let d = case::laid(c, width_of(t / 4), height_of(t / 4), 1);
+    run::run(d);
+    high::run(d);
+}
+
+fn sweep_high() {
+    for t in 0..20 {
+        run_high(t);
+    }
+}
+
 fn main() {
     whole_frames();
     sizes();
@@ -240,4 +290,5 @@ fn main() {
     sweep_sizes();
     sweep_layouts();
     sweep_depths();
+    sweep_high();
 }
