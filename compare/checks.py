@@ -2,22 +2,113 @@
 """checks.py FILE: works out every line of FILE, the output of the program run_checks, afresh and says which differ."""
 import sys
 from itertools import zip_longest
+from math import ceil, floor
+from types import SimpleNamespace
 
-from cases import Case
-from model import block, check, convert, exact_chroma, exact_luma, pixel, wrong
+from cases import MATRICES, Case
+from model import (COUNT, PLACES, Frame, Settings, block, check, convert, exact_chroma, exact_luma, formed, pixel, tolerance,
+                   wrong)
+
+
+def exact_at(c, source, plane, row, element):
+    """The exact value of a sample, and how many pixels it is made of."""
+    s, f = c.settings, c.frame
+    if plane == 0:
+        return exact_luma(s, pixel(s, f, source, row, element)), 1
+    places = block(s, f, row, element // 2)
+    return exact_chroma(s, [pixel(s, f, source, y, x) for y, x in places], element % 2 == s.order), len(places)
 
 
 def words(c, source, plane, row, element):
     """How many of the 65,536 words are accepted at a place, the first and the last of them, and how many are not."""
-    s, f = c.settings, c.frame
-    if plane == 0:
-        exact, pixels = exact_luma(s, pixel(s, f, source, row, element)), 1
-    else:
-        places = block(s, f, row, element // 2)
-        exact = exact_chroma(s, [pixel(s, f, source, y, x) for y, x in places], element % 2 == s.order)
-        pixels = len(places)
-    accepted = [v for v in range(65536) if not wrong(s, v, exact, pixels)]
+    exact, pixels = exact_at(c, source, plane, row, element)
+    accepted = [v for v in range(65536) if not wrong(c.settings, v, exact, pixels)]
     return [len(accepted), accepted[0], accepted[-1], 65536 - len(accepted)]
+
+
+def edge(c, source, plane, row, element):
+    """The lowest and the highest code within the tolerance at a place, and how many words lie next to them, which are wrong: one code
+    down, and one code up where a word can hold it."""
+    s = c.settings
+    exact, pixels = exact_at(c, source, plane, row, element)
+    allowed = tolerance(s.m(), s.precision, pixels)
+    low, high = max(0, ceil(exact - allowed)), min(s.m(), floor(exact + allowed))
+    words = 2 ** 16 if s.packing == 1 else 2 ** s.depth
+    return low, high, (low > 0) + (high + 1 < words)
+
+
+def edges(c, source, plane, row, last):
+    places = [edge(c, source, plane, row, element) for element in (0, last // 2, last)]
+    return [n for low, high, _ in places for n in (low, high)] + [sum(named for _, _, named in places)]
+
+
+def block_of(numbers):
+    """A frame of one chroma block, by its settings and the sums of its channels."""
+    depth, precision, matrix, full, pixels, *sums = numbers
+    subsampling, width, height = {1: (2, 1, 1), 2: (1, 2, 1), 4: (0, 2, 2)}[pixels]
+    settings = Settings(depth, precision, MATRICES[matrix], full == 1, subsampling, 0, 1, 1, 0)
+    source = [total // pixels + (i < total % pixels) for i in range(pixels) for total in sums]
+    return settings, Frame(width, height, 3 * width, width, 2), source
+
+
+def block_edges(numbers):
+    c = SimpleNamespace()
+    c.settings, c.frame, source = block_of(numbers)
+    assert not isinstance(c.settings.settle(), int)
+    places = [edge(c, source, *place) for place in ((0, 0, 0), (1, 0, 0), (1, 0, 1))]
+    return [n for low, high, _ in places for n in (low, high)] + [sum(named for _, _, named in places)]
+
+
+def in_all(answers):
+    """How many answers accept, how many name a sample, and a checksum of all of them."""
+    total = 0
+    for answer in answers:
+        word, *place = answer.split()
+        for n in [0, 0, 0, 0, 0] if word == 'accepted' else [0, 1, *place] if word == 'wrong' else [*place, 0, 0, 0, 0]:
+            total = (total * 31 + int(n) + 1) % 65521
+    return [sum(answer == 'accepted' for answer in answers), sum(answer.startswith('wrong') for answer in answers), total]
+
+
+def faulty(c, plane, stride, wide, row, fault):
+    """A row whose elements hold the first one's word (0) or the first two's (1), or codes as far on the other side of grey (2)."""
+    s, from_ = c.settings, row * stride
+    changed = list(plane)
+    for i in range(from_, from_ + wide):
+        if fault < 2:
+            changed[i] = plane[from_ + (i - from_) % (fault + 1)]
+        else:
+            code = formed(s, plane[i])
+            changed[i] = s.word(2 ** s.depth - code) if code else plane[i]
+    return changed
+
+
+def faults(c, source, luma, chroma, fault):
+    """Each row of a plane at fault by itself."""
+    s, f = c.settings, c.frame
+    wide, high = s.chroma_size(f.width, f.height)
+    if fault == 0:
+        planes = [(faulty(c, luma, f.luma_stride, f.width, row, fault), chroma) for row in range(f.height)]
+    else:
+        planes = [(luma, faulty(c, chroma, f.chroma_stride, wide, row, fault)) for row in range(high)]
+    return in_all([check(s, f, source, *both) for both in planes])
+
+
+def partner(n, size):
+    return n - 1 if n % 2 == 1 else n + 1 if n + 1 < size else n
+
+
+def lost(c, source, luma, row):
+    """Chroma of pictures in which a pixel is the one beside it, or the one above or below it, beside the right luma."""
+    s, f = c.settings, c.frame
+    answers = []
+    for column in (x for x in range(16) if x % 4 < 2):
+        for other in ((row, partner(column, f.width)), (partner(row, f.height), column)):
+            changed = list(source)
+            for place in PLACES[s.channels]:
+                changed[row * f.source_stride + column * COUNT[s.channels] + place] = \
+                    source[other[0] * f.source_stride + other[1] * COUNT[s.channels] + place]
+            answers.append(check(s, f, source, luma, convert(s, f, changed, *c.planes())[2]))
+    return in_all(answers)
 
 
 def flipped(plane, at):
@@ -39,6 +130,10 @@ def left(c, source, luma, chroma, old, plane, first, count):
     return check(c.settings, c.frame, source, *planes)
 
 
+def row_of(name, numbers):
+    return ' '.join([name] + [str(n) for n in numbers])
+
+
 def work_out(lines):
     """Each line as it should be."""
     c = source = luma = chroma = old = None
@@ -52,7 +147,15 @@ def work_out(lines):
             number, luma, chroma = convert(c.settings, c.frame, source, *c.planes())
             yield line
         elif name == 'words':
-            yield ' '.join(['words'] + [str(n) for n in numbers[:3] + words(c, source, *numbers[:3])])
+            yield row_of(name, numbers[:3] + words(c, source, *numbers[:3]))
+        elif name == 'edges':
+            yield row_of(name, numbers[:3] + edges(c, source, *numbers[:3]))
+        elif name == 'faults':
+            yield row_of(name, numbers[:1] + faults(c, source, luma, chroma, *numbers[:1]))
+        elif name == 'lost':
+            yield row_of(name, numbers[:1] + lost(c, source, luma, *numbers[:1]))
+        elif name == 'block':
+            yield row_of(name, numbers[:8] + block_edges(numbers[:8]))
         elif name == 'pair':
             answer = pair(c, source, luma, chroma, *numbers)
             yield line
@@ -77,7 +180,7 @@ def main():
         print(a, '\n should be', b)
     print(f'{len(lines)} lines, {len(differ)} differ')
     names = [line.split()[0] for line in lines]
-    print({name: names.count(name) for name in ('case', 'words', 'pair', 'left', 'unwritten')})
+    print({name: names.count(name) for name in ('case', 'words', 'pair', 'left', 'unwritten', 'edges', 'faults', 'lost', 'block')})
     for name in ('pair', 'left', 'unwritten'):
         answers = [b.split() for a, b in zip(lines, lines[1:]) if a.split()[0] == name]
         print(f'{name}:', {word: sum(a[:len(word.split())] == word.split() for a in answers)

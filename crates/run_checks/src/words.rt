@@ -1,19 +1,14 @@
 // Each of the 65,536 words in turn at one place of a converted frame of 3×3 pixels with one element of padding in each row: how
 // many are accepted, the first and the last of them, and for how many the check names that very place.
 use crate::calls;
+use crate::spot::Spot;
+use crate::spot::check_word;
+use crate::spot::names;
+use crate::spot::spot_at;
 use ayresokum::CheckedNumbers;
 use cases::case::Case;
 use cases::draw;
-use cases::planes::put;
 use cases::text;
-
-// A place, and its index in its plane.
-struct Spot {
-    plane: u32,
-    row: u32,
-    element: u32,
-    at: usize,
-}
 
 struct Tally {
     accepted: usize,
@@ -24,14 +19,6 @@ struct Tally {
 
 fn more(n: usize) -> usize {
     if n < 65536 { n + 1 } else { n }
-}
-
-fn names(t: CheckedNumbers, spot: Spot) -> bool {
-    t.refusal == 0
-        && t.wrong == 1
-        && t.plane == spot.plane
-        && t.row == spot.row
-        && t.element == spot.element
 }
 
 // The tally with one more word.
@@ -48,26 +35,6 @@ fn tallied(tally: Tally, spot: Spot, t: CheckedNumbers, v: usize) -> Tally {
         next.last = v;
     }
     next
-}
-
-fn put_word(luma: &mut [u16], chroma: &mut [u16], spot: Spot, v: u16) {
-    if spot.plane == 0 {
-        put(luma, spot.at, v);
-    } else {
-        put(chroma, spot.at, v);
-    }
-}
-
-fn check_word(
-    c: Case,
-    source: &[u16],
-    luma: &mut [u16],
-    chroma: &mut [u16],
-    spot: Spot,
-    v: u16,
-) -> CheckedNumbers {
-    put_word(luma, chroma, spot, v);
-    calls::check(c, source, luma, chroma)
 }
 
 fn try_words(c: Case, source: &[u16], luma: &mut [u16], chroma: &mut [u16], spot: Spot) {
@@ -94,15 +61,6 @@ fn try_words(c: Case, source: &[u16], luma: &mut [u16], chroma: &mut [u16], spot
             tally.named,
         ],
     );
-}
-
-fn spot_at(plane: u32, row: u32, element: u32, at: usize) -> Spot {
-    Spot {
-        plane,
-        row,
-        element,
-        at,
-    }
 }
 
 // The last visible chroma element of a frame of 3×3.

@@ -1,0 +1,189 @@
+// Frames wide and high enough that whole rows are judged at once: the codes accepted at the first, the middle and the last element of
+// the first, the middle and the last row of each plane; then whole rows at fault.
+ghost use Prim.Native.Nat.{_≤_, _<_};
+use crate::calls;
+use crate::edges::Accepted;
+use crate::edges::Two;
+use crate::edges::accepted_at;
+use crate::edges::accepted_at_two;
+use crate::faults;
+use crate::spot::Spot;
+use cases::case::Case;
+use cases::draw;
+use cases::planes::index;
+use cases::text;
+
+fn stride_of(c: Case, plane: u32) -> usize {
+    if plane == 0 {
+        c.luma_stride
+    } else {
+        c.chroma_stride
+    }
+}
+
+fn place(c: Case, plane: u32, row: usize, element: usize) -> Spot
+    requires { ⌜ (row ≤ 32) × (element ≤ 64) ⌝ }
+{
+    Spot {
+        plane,
+        row: row as u32,
+        element: element as u32,
+        at: index(stride_of(c, plane), row, element),
+    }
+}
+
+fn put_row(plane: u32, row: usize, last: usize, ends: Two, middle: Accepted)
+    requires { ⌜ (ends .named ≤ 4) × (middle .named ≤ 2) ⌝ }
+{
+    text::line(
+        b"edges",
+        &[
+            text::small(plane),
+            row,
+            last,
+            ends.first_low,
+            ends.first_high,
+            middle.low,
+            middle.high,
+            ends.second_low,
+            ends.second_high,
+            ends.named + middle.named,
+        ],
+    );
+}
+
+fn try_row(
+    c: Case,
+    source: &[u16],
+    luma: &mut [u16],
+    chroma: &mut [u16],
+    plane: u32,
+    row: usize,
+    last: usize,
+)
+    requires { ⌜ (row ≤ 32) × (last ≤ 64) ⌝ }
+{
+    let first = place(c, plane, row, 0);
+    let end = place(c, plane, row, last);
+    let half = place(c, plane, row, last / 2);
+    let ends = accepted_at_two(c, source, luma, chroma, first, end);
+    put_row(
+        plane,
+        row,
+        last,
+        ends,
+        accepted_at(c, source, luma, chroma, half),
+    );
+}
+
+fn try_plane(
+    c: Case,
+    source: &[u16],
+    luma: &mut [u16],
+    chroma: &mut [u16],
+    plane: u32,
+    last_row: usize,
+    last: usize,
+)
+    requires { ⌜ («last_row» ≤ 32) × (last ≤ 64) ⌝ }
+{
+    try_row(c, source, luma, chroma, plane, 0, last);
+    try_row(c, source, luma, chroma, plane, last_row / 2, last);
+    try_row(c, source, luma, chroma, plane, last_row, last);
+}
+
+// The last of n rows or elements, of which the first 32 are looked at.
+fn last_of(n: usize) -> usize
+    ensures { λ r. ⌜ r ≤ 31 ⌝ }
+{
+    if n == 0 {
+        return 0;
+    }
+    if n <= 32 { n - 1 } else { 31 }
+}
+
+// The last element of a chroma row.
+fn chroma_last(c: Case) -> usize
+    ensures { λ r. ⌜ r ≤ 64 ⌝ }
+{
+    let pixels = last_of(c.width);
+    if c.subsampling == 2 {
+        return 2 * pixels + 1;
+    }
+    pixels / 2 * 2 + 1
+}
+
+fn chroma_last_row(c: Case) -> usize
+    ensures { λ r. ⌜ r ≤ 32 ⌝ }
+{
+    let rows = last_of(c.height);
+    if c.subsampling == 0 {
+        return rows / 2;
+    }
+    rows
+}
+
+fn try_planes(c: Case, source: &[u16], luma: &mut [u16], chroma: &mut [u16]) {
+    calls::convert(c, source, luma, chroma);
+    try_plane(
+        c,
+        source,
+        luma,
+        chroma,
+        0,
+        last_of(c.height),
+        last_of(c.width),
+    );
+    try_plane(
+        c,
+        source,
+        luma,
+        chroma,
+        1,
+        chroma_last_row(c),
+        chroma_last(c),
+    );
+}
+
+fn try_frame(c: Case, source: &[u16], luma: &mut [u16], chroma: &mut [u16]) {
+    try_planes(c, source, luma, chroma);
+    faults::run(
+        c,
+        source,
+        luma,
+        chroma,
+        0,
+        last_of(c.height),
+        last_of(c.width),
+    );
+    faults::run(
+        c,
+        source,
+        luma,
+        chroma,
+        1,
+        chroma_last_row(c),
+        chroma_last(c),
+    );
+    faults::run(
+        c,
+        source,
+        luma,
+        chroma,
+        2,
+        chroma_last_row(c),
+        chroma_last(c),
+    );
+}
+
+// A frame of at most 32×32 pixels.
+pub(crate) fn run(c: Case) {
+    text::case(c);
+    let source = draw::source_of(c);
+    let mut luma = draw::room(7);
+    let mut chroma = draw::room(7);
+    let n = draw::within_room(c.source);
+    let m = draw::within_room(c.luma);
+    let k = draw::within_room(c.chroma);
+    try_frame(c, &source[..n], &mut luma[..m], &mut chroma[..k]);
+}
