@@ -17,7 +17,6 @@ ghost use Rattle.frames.specs.Tests.{Sized};
 
 mod walk;
 
-use frames::refusals;
 use rules::Checked;
 use rules::Frame;
 use rules::Matrix;
@@ -83,7 +82,7 @@ fn check_named(
     requires { ⌜ matrixOf (s .matrix) ≡ Tabled k ⌝ }
     ensures { λ r. ⌜ ByVerdict (first (frameLines s f (now (source .entry)) (length (now (luma .entry))) (length (now (chroma .entry))))) s f (now (source .entry)) (now (luma .entry)) (now (chroma .entry)) r ⌝ }
 {
-    let verdict = refusals::judge(s, f, source, luma.len(), chroma.len());
+    let verdict = frame_refusals::judge(s, f, source, luma.len(), chroma.len());
     match verdict {
         Verdict::Refuses(r) => Checked::Refused(r),
         Verdict::Passes => check_settled(s, k, f, source, luma, chroma),

@@ -64,22 +64,6 @@ part-shows c source stride width row n h =
 pub visible-long : (a width : ℕ) (c : YuvSourceChannels) {k : ℕ} → k ≡ count c → a + width * k - a ≡ width * count c
 visible-long a width c {k} e = add-sub-cancel-left a (width * k) ∙ ap (λ (n : ℕ). width * n) e
 
--- a row part of a source that is ready
-module _ (s : Settings) (f : Frame) (source : List ℕ) (luma chroma : ℕ) (ready : Ready s f source luma chroma) (row n : ℕ) (within : row < f .height)
-    (exact : n ≡ f .width * count (s .channels)) where
-  pub shows : Shows (s .channels) (take n (drop (row * f .«source_stride») source)) (picture (s .channels) (f .«source_stride») source) row (f .width)
-  shows = part-shows (s .channels) source (f .«source_stride») (f .width) row n (omega arith)
-
-  pub part : Part s (f .width) (take n (drop (row * f .«source_stride») source))
-  part =
-      let fits = ready .laid .source .fits row within in
-      let rest = length-drop (row * f .«source_stride») source in
-      let long = length-take-le n (drop (row * f .«source_stride») source) (omega arith) in
-      record {
-        long = omega arith;
-        low = record { low = λ x b. subst⁻¹ (Low (most (s .depth))) (shows .same x b) (ready .low .low row within .low x b) };
-      }
-
 -- the part that starts at row × stride and ends with the visible row
 pub source-row : (c : YuvSourceChannels) (f : Frame) (source : List ℕ) (row n : ℕ) → n ≡ f .width * count c → row * f .«source_stride» + f .width * count c ≤ length source
     → SourceRow c f source row (take n (drop (row * f .«source_stride») source))

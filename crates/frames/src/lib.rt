@@ -1,6 +1,3 @@
-// The rows of a frame's buffers, and refusals 7 to 10: what converting and checking a frame share.
-mod bound;
+// The rows of a source and their pixels: what converting and checking a frame share.
 pub mod channels;
-pub mod refusals;
 pub mod rows;
-pub mod scan;

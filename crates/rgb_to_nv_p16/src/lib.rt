@@ -10,7 +10,6 @@ ghost use Rattle.rule_laws.specs.Usable.{Usable};
 mod frame;
 mod rows;
 
-use frames::refusals;
 use rules::Converted;
 use rules::Frame;
 use rules::Settings;
@@ -42,7 +41,7 @@ fn convert_settled(
     ensures { λ r. ⌜ now (luma .exit) ≡ kept (first (frameLines s f (now (source .entry)) (length (now (luma .entry))) (length (now (chroma .entry))))) (lumaWritten s w f (picture (s .channels) (f .«source_stride») (now (source .entry))) (now (luma .entry))) (now (luma .entry)) ⌝ }
     ensures { λ r. ⌜ now (chroma .exit) ≡ kept (first (frameLines s f (now (source .entry)) (length (now (luma .entry))) (length (now (chroma .entry))))) (chromaWritten s w f (picture (s .channels) (f .«source_stride») (now (source .entry))) (now (chroma .entry))) (now (chroma .entry)) ⌝ }
 {
-    let verdict = refusals::judge(s, f, source, luma.len(), chroma.len());
+    let verdict = frame_refusals::judge(s, f, source, luma.len(), chroma.len());
     frame::write_planes(verdict, s, w, f, source, luma, chroma);
     answer_of(verdict)
 }

@@ -1,0 +1,96 @@
+-- `scan::too_large` meets its contract: nothing is to be found by the greatest m, and nothing was found in the rows passed. Assumes nothing.
+use borrow.Author.Needs.{needs}
+use mathlib.Core.Path.{_≡_, sym, ap, _∙_}
+use mathlib.Core.Bool.{Bool}
+use Prim.Native.Nat.{ℕ, _-_, _≤_}
+use native.Mathlib.Omega.{arith}
+use Rattle.rules.specs.declared.Search.{Search}
+use Rattle.rules.specs.declared.Search.the-variants.{Nothing}
+use Rattle.rules.specs.Channels.{picture}
+use Rattle.rules.specs.Frames.{firstBelow, highAt, tooLargeAt, isFound}
+use Rattle.plane_laws.proofs.Firsts.{none-more, found-first, first-ext}
+use Rattle.scan.proofs.Lows.{all-low, rows-nothing, picture-nothing}
+use Rattle.scan.proofs.too_large.Statement.{statement}
+use Rattle.scan.proofs.too_large.Tie as tie
+
+abbrev Inv-loop : tie.InvT-loop
+Inv-loop m channels f source width height row₀ row =
+    (row ≤ height) × (firstBelow row (λ i. firstBelow (f .width) (λ x. highAt m i x (picture channels (f .«source_stride») source i x))) ≡ Nothing)
+
+abbrev μ-loop : tie.MeasureT-loop
+μ-loop m channels f source width height row₀ row = height - row
+
+-- the first place in a row of the source
+abbrev search-row : tie.Start Inv-loop μ-loop → ℕ → Search
+search-row a row =
+    let v = a .args in
+    firstBelow (v .f .width) (λ x. highAt (v .m) row x (picture (v .channels) (v .f .«source_stride») (v .source .now) row x))
+
+-- what was found in the row part, said of the source
+told : (c : tie.After-row-high Inv-loop μ-loop) → c .row-high .result ≡ search-row (c .before .before .before .before .before .before .before) (c .before .before .before .loop .row)
+told c =
+    let v = c .before .before .before .before .before .before .before .args in
+    let row = c .before .before .before .loop .row in
+    c .row-high .ensures
+    ∙ first-ext (v .f .width) _ _ (λ x h. ap (highAt (v .m) row x) (c .before .source-row .ensures .shows .same x h))
+
+asked : (c : tie.After-is-found Inv-loop μ-loop) (t : Bool) → c .is-found .result ≡ t → isFound (search-row (c .before .before .before .before .before .before .before .before) (c .before .before .before .before .loop .row)) ≡ t
+asked c t h = sym (c .is-found .ensures ∙ ap isFound (told (c .before))) ∙ h
+
+returns : tie.Need-returns Inv-loop μ-loop
+returns c =
+    let v = c .before .before .args in
+    sym (picture-nothing (v .m) (v .f) _ (all-low (v .channels) (v .m) (v .f .«source_stride») _ _ (v .source .now) (λ i. omega (arith, c .before .shared-slice-known .given i))))
+
+rows-low-requires : tie.Need-rows-low-requires Inv-loop μ-loop
+rows-low-requires c κs = c .before .before .pre
+
+loop-holds : tie.Need-loop-holds Inv-loop μ-loop
+loop-holds c = (c .rows-low .ensures .0, rows-nothing _ _ _ _ (c .rows-low .ensures .1))
+
+source-row-requires : tie.Need-source-row-requires Inv-loop μ-loop
+source-row-requires c κs = search needs
+
+row-high-requires : tie.Need-row-high-requires Inv-loop μ-loop
+row-high-requires c κs = omega (arith, c .source-row .ensures .long)
+
+is-found-requires : tie.Need-is-found-requires Inv-loop μ-loop
+is-found-requires c κs = tt
+
+returns-2 : tie.Need-returns-2 Inv-loop μ-loop
+unfolding tooLargeAt
+returns-2 c = told (c .before .before) ∙ sym (found-first _ _ (c .before .before .before .before .before .loop .row) (c .before .before .before .before .loop-test .taken) (c .before .before .before .before .before .loop .inv .1) (asked (c .before) _ (c .if2 .taken)))
+
+add-row : tie.Need-add-row Inv-loop μ-loop
+add-row c = omega arith
+
+loop-less : tie.Need-loop-less Inv-loop μ-loop
+loop-less c = omega arith
+
+loop-again : tie.Need-loop-again Inv-loop μ-loop
+loop-again c = (omega arith, none-more _ (c .before .before .before .before .before .loop .row) (c .before .before .before .before .before .loop .inv .1) (asked (c .before) _ (c .if2 .left)))
+
+returns-3 : tie.Need-returns-3 Inv-loop μ-loop
+unfolding tooLargeAt
+returns-3 c =
+    let s = c .before .before .before .before .before in
+    let e : c .before .loop .row ≡ s .args .f .height = omega arith in
+    sym (ap (λ (n : ℕ). firstBelow n (search-row s)) (sym e) ∙ c .before .loop .inv .1)
+
+pub too-large-spec : {M : Type 1} → statement M
+too-large-spec =
+    tie.close
+    (tie.spec
+    Inv-loop
+    μ-loop
+    returns
+    rows-low-requires
+    loop-holds
+    source-row-requires
+    row-high-requires
+    is-found-requires
+    returns-2
+    add-row
+    loop-less
+    loop-again
+    returns-3)
