@@ -15,8 +15,6 @@ ghost use Rattle.rule_laws.specs.Usable.{Reach};
 ghost use Rattle.frames.specs.Rows.{Rows};
 ghost use Rattle.frames.specs.Tests.{Sized};
 
-mod walk;
-
 use rules::Checked;
 use rules::Frame;
 use rules::Matrix;
@@ -28,7 +26,7 @@ use rules::Settled;
 use rules::Verdict;
 use sample_check::judge;
 use settle::settle;
-use walk::Found;
+use walks::Found;
 use yuv_support::matrices;
 
 // The answer where no refusal is due: luma is walked first, and chroma only where luma is clean.
@@ -48,7 +46,7 @@ fn check_settled(
     ensures { λ r. ⌜ Judged s k f (picture (s .channels) (f .«source_stride») (now (source .entry))) (now (luma .entry)) (now (chroma .entry)) r ⌝ }
 {
     let j = judge::judge_of(s, k);
-    let in_luma = walk::walk_luma(s, k, j, f, source, luma);
+    let in_luma = walks::walk_luma(s, k, j, f, source, luma);
     if let Found::At(row, element) = in_luma {
         let luma_place = Place {
             plane: 0,
@@ -57,7 +55,7 @@ fn check_settled(
         };
         return Checked::Wrong(luma_place);
     }
-    let in_chroma = walk::walk_chroma(s, k, j, f, source, chroma);
+    let in_chroma = walks::walk_chroma(s, k, j, f, source, chroma);
     if let Found::At(row, element) = in_chroma {
         let chroma_place = Place {
             plane: 1,

@@ -1,6 +1,6 @@
 -- `frame_check::check_settled` meets its contract. Assumes nothing.
 use borrow.Author.Needs.{needs}
-use Rattle.frame_check.proofs.Walked.{found-nothing, found-at}
+use Rattle.walks.proofs.Walked.{found-nothing, found-at}
 use Rattle.frame_check.proofs.check_settled.Statement.{statement}
 use Rattle.frame_check.proofs.check_settled.Tie as tie
 

@@ -5,9 +5,9 @@ use Prim.Native.Nat.{ℕ, _+_, _≤_, _<_}
 use native.Mathlib.Omega.{arith}
 use borrow.Author.Count.{below-more}
 use Rattle.rules.specs.Check.{Test, Clean, FirstWrong}
-use Rattle.frame_check.specs.declared.walk.Found.{Found}
-use Rattle.frame_check.specs.declared.walk.Found.the-variants.{Nothing, At}
-use Rattle.frame_check.specs.Walks.{Finds}
+use Rattle.walks.specs.declared.Found.{Found}
+use Rattle.walks.specs.declared.Found.the-variants.{Nothing, At}
+use Rattle.walks.specs.Walks.{Finds}
 
 -- the first n samples of a row are right
 pub record CleanRow (t : Test) (row n : ℕ) : Type 0 where

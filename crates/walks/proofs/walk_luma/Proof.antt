@@ -1,4 +1,4 @@
--- `frame_check::walk::walk_luma` meets its contract. Assumes nothing.
+-- `walks::walk_luma` meets its contract. Assumes nothing.
 use borrow.Author.Needs.{needs}
 use mathlib.Core.Path.{_≡_, refl, sym, _∙_}
 use borrow.Author.Tests.{not-true, not-false}
@@ -12,10 +12,10 @@ use Rattle.rules.specs.Channels.{count, picture}
 use Rattle.rules.specs.Check.{Clean, lumaTest}
 use Rattle.frames.specs.Rows.{rowPixel}
 use Rattle.sample_check.specs.Samples.{pixelRight}
-use Rattle.frame_check.proofs.Walked.{CleanRow, row-more, clean-none, clean-more, clean-all, first-wrong}
-use Rattle.frame_check.proofs.Parts.{Part, part-of, part, part-long, luma-shown}
-use Rattle.frame_check.proofs.walk.walk_luma.Statement.{statement}
-use Rattle.frame_check.proofs.walk.walk_luma.Tie as tie
+use Rattle.walks.proofs.Walked.{CleanRow, row-more, clean-none, clean-more, clean-all, first-wrong}
+use Rattle.walks.proofs.Parts.{Part, part-of, part, part-long, luma-shown}
+use Rattle.walks.proofs.walk_luma.Statement.{statement}
+use Rattle.walks.proofs.walk_luma.Tie as tie
 
 abbrev Inv-loop : tie.InvT-loop
 Inv-loop s k j f source luma channels width height stride row line from to samples passed column₀ column =

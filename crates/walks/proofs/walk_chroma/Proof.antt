@@ -1,4 +1,4 @@
--- `frame_check::walk::walk_chroma` meets its contract. Assumes nothing.
+-- `walks::walk_chroma` meets its contract. Assumes nothing.
 use borrow.Author.Needs.{needs}
 use mathlib.Core.Path.{_≡_, sym, _∙_, subst}
 use borrow.Author.Tests.{not-true, not-false}
@@ -14,10 +14,10 @@ use Rattle.rules.specs.Check.{Clean, chromaTest}
 use Rattle.samples.proofs.Tiles.{height-small, top-below, two-below, second-below}
 use Rattle.frames.specs.Rows.{rowPixel}
 use Rattle.sample_check.specs.Samples.{elementRight}
-use Rattle.frame_check.proofs.Walked.{CleanRow, row-more, clean-none, clean-more, clean-all, first-wrong}
-use Rattle.frame_check.proofs.Parts.{Part, part-of, part, part-long, chroma-shown}
-use Rattle.frame_check.proofs.walk.walk_chroma.Statement.{statement}
-use Rattle.frame_check.proofs.walk.walk_chroma.Tie as tie
+use Rattle.walks.proofs.Walked.{CleanRow, row-more, clean-none, clean-more, clean-all, first-wrong}
+use Rattle.walks.proofs.Parts.{Part, part-of, part, part-long, chroma-shown}
+use Rattle.walks.proofs.walk_chroma.Statement.{statement}
+use Rattle.walks.proofs.walk_chroma.Tie as tie
 
 abbrev Inv-loop : tie.InvT-loop
 Inv-loop s k j f source chroma channels subsampling width height stride wide rows row t two top low from to samples passed element₀ element =

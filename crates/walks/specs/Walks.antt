@@ -1,8 +1,8 @@
 -- What a walk through a plane yields. Definitions only.
 use Prim.Native.Nat.{ℕ}
 use Rattle.rules.specs.Check.{Test, Clean, FirstWrong}
-use Rattle.frame_check.specs.declared.walk.Found.{Found}
-use Rattle.frame_check.specs.declared.walk.Found.the-variants.{Nothing, At}
+use Rattle.walks.specs.declared.Found.{Found}
+use Rattle.walks.specs.declared.Found.the-variants.{Nothing, At}
 
 -- nothing exactly where all is right; else the first wrong sample
 abbrev pub Finds : Test → ℕ → ℕ → Found → Type 0

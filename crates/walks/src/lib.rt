@@ -8,7 +8,7 @@ ghost use Rattle.rule_laws.specs.Usable.{Reach};
 ghost use Rattle.frames.specs.Rows.{Rows};
 ghost use Rattle.frames.specs.Tests.{Sized};
 ghost use Rattle.sample_check.specs.Judging.{Judging};
-ghost use Rattle.frame_check.specs.Walks.{Finds};
+ghost use Rattle.walks.specs.Walks.{Finds};
 use frames::rows;
 use row_check::passed;
 use rules::Frame;
