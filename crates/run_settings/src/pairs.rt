@@ -1,8 +1,8 @@
 // Custom pairs, by the bits of their floats.
 
-pub const COUNT: usize = 49;
+pub const COUNT: usize = 51;
 
-pub const KR: [u32; 49] = [
+pub const KR: [u32; 51] = [
     // not a number
     0x7fc00000,
     0x3e800000,
@@ -60,9 +60,12 @@ pub const KR: [u32; 49] = [
     0x3d4ccccd,
     0x3a83126f,
     0x3efff2e5,
+    // exact halves at P = 7: 2^-8 and 3·2^-8, 2^-8 and 1/2
+    0x3b800000,
+    0x3b800000,
 ];
 
-pub const KB: [u32; 49] = [
+pub const KB: [u32; 51] = [
     // not a number
     0x3e800000,
     0x7fc00000,
@@ -120,4 +123,7 @@ pub const KB: [u32; 49] = [
     0x3f666666,
     0x3a83126f,
     0x3efff2e5,
+    // exact halves at P = 7: 2^-8 and 3·2^-8, 2^-8 and 1/2
+    0x3c400000,
+    0x3f000000,
 ];

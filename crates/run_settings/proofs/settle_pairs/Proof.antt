@@ -6,10 +6,10 @@ use Rattle.run_settings.proofs.settle_pairs.Statement.{statement}
 use Rattle.run_settings.proofs.settle_pairs.Tie as tie
 
 abbrev Inv-loop : tie.InvT-loop
-Inv-loop i₀ i = i ≤ 49
+Inv-loop i₀ i = i ≤ 51
 
 abbrev μ-loop : tie.MeasureT-loop
-μ-loop i₀ i = 49 - i
+μ-loop i₀ i = 51 - i
 
 loop-holds : tie.Need-loop-holds Inv-loop μ-loop
 loop-holds c = omega arith
