@@ -3,60 +3,55 @@
 import sys
 from itertools import zip_longest
 from math import ceil, floor
-from types import SimpleNamespace
 
 from cases import MATRICES, Case
-from model import (COUNT, PLACES, Frame, Settings, block, check, convert, exact_chroma, exact_luma, formed, pixel, tolerance,
-                   wrong)
+from model import (COUNT, PLACES, Frame, Settings, block, check, convert, exact_chroma, exact_luma, formed, pixel, tolerance)
 
 
-def exact_at(c, source, plane, row, element):
-    """The exact value of a sample, and how many pixels it is made of."""
-    s, f = c.settings, c.frame
+def exact_at(s, f, source, plane, row, element):
+    """The exact value of a sample, and the tolerance around it."""
     if plane == 0:
-        return exact_luma(s, pixel(s, f, source, row, element)), 1
-    places = block(s, f, row, element // 2)
-    return exact_chroma(s, [pixel(s, f, source, y, x) for y, x in places], element % 2 == s.order), len(places)
+        return exact_luma(s, pixel(s, f, source, row, element)), tolerance(s.m(), s.precision, 1)
+    pixels = [pixel(s, f, source, y, x) for y, x in block(s, f, row, element // 2)]
+    return exact_chroma(s, pixels, element % 2 == s.order), tolerance(s.m(), s.precision, len(pixels))
 
 
-def words(c, source, plane, row, element):
+def words(s, f, source, *place):
     """How many of the 65,536 words are accepted at a place, the first and the last of them, and how many are not."""
-    exact, pixels = exact_at(c, source, plane, row, element)
-    accepted = [v for v in range(65536) if not wrong(c.settings, v, exact, pixels)]
+    exact, allowed = exact_at(s, f, source, *place)
+    accepted = [v for v in range(65536) if (code := formed(s, v)) is not None and abs(code - exact) <= allowed]
     return [len(accepted), accepted[0], accepted[-1], 65536 - len(accepted)]
 
 
-def edge(c, source, plane, row, element):
-    """The lowest and the highest code within the tolerance at a place, and how many words lie next to them, which are wrong: one code
-    down, and one code up where a word can hold it."""
-    s = c.settings
-    exact, pixels = exact_at(c, source, plane, row, element)
-    allowed = tolerance(s.m(), s.precision, pixels)
-    low, high = max(0, ceil(exact - allowed)), min(s.m(), floor(exact + allowed))
-    words = 2 ** 16 if s.packing == 1 else 2 ** s.depth
-    return low, high, (low > 0) + (high + 1 < words)
+def edges(s, f, source, places):
+    """The lowest and the highest code within the tolerance at each place, then how many words lie next to these: one code down, and one
+    code up where a word can hold it. They are wrong, and the check names their place."""
+    numbers, beyond = [], 0
+    for place in places:
+        exact, allowed = exact_at(s, f, source, *place)
+        low, high = max(0, ceil(exact - allowed)), min(s.m(), floor(exact + allowed))
+        numbers += [low, high]
+        beyond += (low > 0) + (high + 1 < (2 ** 16 if s.packing == 1 else 2 ** s.depth))
+    return numbers + [beyond]
 
 
-def edges(c, source, plane, row, last):
-    places = [edge(c, source, plane, row, element) for element in (0, last // 2, last)]
-    return [n for low, high, _ in places for n in (low, high)] + [sum(named for _, _, named in places)]
-
-
-def block_of(numbers):
+def block_of(depth, precision, matrix, full, pixels, *sums):
     """A frame of one chroma block, by its settings and the sums of its channels."""
-    depth, precision, matrix, full, pixels, *sums = numbers
     subsampling, width, height = {1: (2, 1, 1), 2: (1, 2, 1), 4: (0, 2, 2)}[pixels]
     settings = Settings(depth, precision, MATRICES[matrix], full == 1, subsampling, 0, 1, 1, 0)
+    assert not isinstance(settings.settle(), int)
     source = [total // pixels + (i < total % pixels) for i in range(pixels) for total in sums]
     return settings, Frame(width, height, 3 * width, width, 2), source
 
 
-def block_edges(numbers):
-    c = SimpleNamespace()
-    c.settings, c.frame, source = block_of(numbers)
-    assert not isinstance(c.settings.settle(), int)
-    places = [edge(c, source, *place) for place in ((0, 0, 0), (1, 0, 0), (1, 0, 1))]
-    return [n for low, high, _ in places for n in (low, high)] + [sum(named for _, _, named in places)]
+BLOCK_PLACES = ((0, 0, 0), (1, 0, 0), (1, 0, 1))
+
+
+def at_tolerance(numbers):
+    """At how many places of a block a code lies exactly at the tolerance."""
+    s, f, source = block_of(*numbers)
+    limits = [exact + side * allowed for place in BLOCK_PLACES for exact, allowed in [exact_at(s, f, source, *place)] for side in (-1, 1)]
+    return sum(limit.denominator == 1 and 0 <= limit <= s.m() for limit in limits)
 
 
 def in_all(answers):
@@ -71,11 +66,11 @@ def in_all(answers):
 
 def faulty(c, plane, stride, wide, row, fault):
     """A row whose elements hold the first one's word (0) or the first two's (1), or codes as far on the other side of grey (2)."""
-    s, from_ = c.settings, row * stride
+    s, start = c.settings, row * stride
     changed = list(plane)
-    for i in range(from_, from_ + wide):
+    for i in range(start, start + wide):
         if fault < 2:
-            changed[i] = plane[from_ + (i - from_) % (fault + 1)]
+            changed[i] = plane[start + (i - start) % (fault + 1)]
         else:
             code = formed(s, plane[i])
             changed[i] = s.word(2 ** s.depth - code) if code else plane[i]
@@ -130,7 +125,7 @@ def left(c, source, luma, chroma, old, plane, first, count):
     return check(c.settings, c.frame, source, *planes)
 
 
-def row_of(name, numbers):
+def line_of(name, numbers):
     return ' '.join([name] + [str(n) for n in numbers])
 
 
@@ -147,15 +142,17 @@ def work_out(lines):
             number, luma, chroma = convert(c.settings, c.frame, source, *c.planes())
             yield line
         elif name == 'words':
-            yield row_of(name, numbers[:3] + words(c, source, *numbers[:3]))
+            yield line_of(name, numbers[:3] + words(c.settings, c.frame, source, *numbers[:3]))
         elif name == 'edges':
-            yield row_of(name, numbers[:3] + edges(c, source, *numbers[:3]))
+            plane, row, last = numbers[:3]
+            places = [(plane, row, element) for element in (0, last // 2, last)]
+            yield line_of(name, numbers[:3] + edges(c.settings, c.frame, source, places))
         elif name == 'faults':
-            yield row_of(name, numbers[:1] + faults(c, source, luma, chroma, *numbers[:1]))
+            yield line_of(name, numbers[:1] + faults(c, source, luma, chroma, *numbers[:1]))
         elif name == 'lost':
-            yield row_of(name, numbers[:1] + lost(c, source, luma, *numbers[:1]))
+            yield line_of(name, numbers[:1] + lost(c, source, luma, *numbers[:1]))
         elif name == 'block':
-            yield row_of(name, numbers[:8] + block_edges(numbers[:8]))
+            yield line_of(name, numbers[:8] + edges(*block_of(*numbers[:8]), BLOCK_PLACES))
         elif name == 'pair':
             answer = pair(c, source, luma, chroma, *numbers)
             yield line
@@ -181,6 +178,8 @@ def main():
     print(f'{len(lines)} lines, {len(differ)} differ')
     names = [line.split()[0] for line in lines]
     print({name: names.count(name) for name in ('case', 'words', 'pair', 'left', 'unwritten', 'edges', 'faults', 'lost', 'block')})
+    blocks = [[int(n) for n in line.split()[1:9]] for line in lines if line.startswith('block ')]
+    print('places of blocks with a code exactly at the tolerance:', sum(at_tolerance(numbers) for numbers in blocks))
     for name in ('pair', 'left', 'unwritten'):
         answers = [b.split() for a, b in zip(lines, lines[1:]) if a.split()[0] == name]
         print(f'{name}:', {word: sum(a[:len(word.split())] == word.split() for a in answers)
