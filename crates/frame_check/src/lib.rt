@@ -14,7 +14,6 @@ ghost use Rattle.rules.specs.Check.{Judged, isCustom, ByVerdict, Answers};
 ghost use Rattle.rule_laws.specs.Usable.{Reach};
 ghost use Rattle.frames.specs.Rows.{Rows};
 ghost use Rattle.frames.specs.Tests.{Sized};
-
 use rules::Checked;
 use rules::Frame;
 use rules::Matrix;

@@ -7,6 +7,7 @@ ghost use Rattle.rules.specs.Frames.{place, firstBelow, highAt, tooLargeAt, isF
 ghost use Rattle.frames.specs.Rows.{rowPixel, Rows, LowPicture};
 ghost use Rattle.scan.specs.Bounds.{LowFour};
 ghost use Rattle.frames.specs.Tests.{Sized};
+
 mod bound;
 
 use frames::channels;
