@@ -180,7 +180,7 @@ fn run_depths() {
 }
 
 // A code lies exactly at the tolerance: luma's above and below it, then Cr's of one, two and four pixels. It does so at P = 1 and 2 alone,
-// and no Cb of settings that settle does.
+// and no Cb of named settings that settle does (compare/at_tolerance.py).
 fn run_exact() {
     run_sums(10, 1, 0, 1, 1, 1, 44, 77);
     run_sums(10, 1, 0, 1, 1, 889, 1020, 996);
