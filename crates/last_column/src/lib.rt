@@ -89,9 +89,9 @@ pub fn last_pair(
     if width % 2 == 0 {
         return;
     }
-    let x = width - 1;
-    let k = elements_over(subsampling, x);
-    let p = column_mean(channels, width, two, x, upper, lower);
+    let last = width - 1;
+    let k = elements_over(subsampling, last);
+    let p = column_mean(channels, width, two, last, upper, lower);
     chroma[k] = word::chroma_word(s, w, p, k);
     chroma[k + 1] = word::chroma_word(s, w, p, k + 1);
 }

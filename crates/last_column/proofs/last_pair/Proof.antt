@@ -57,8 +57,8 @@ returns c =
     let v = c .before .before .before .before .args in
     finished-none _ _ _ (omega (arith, c .before .before .before .before .pre .1 .0 .1, none-left (v .s .subsampling) (v .width) (c .if1 .taken)))
 
-sub-x : tie.Need-sub-x
-sub-x c = search needs
+sub-last : tie.Need-sub-last
+sub-last c = search needs
 
 elements-over-requires : tie.Need-elements-over-requires
 elements-over-requires c κs = search needs
@@ -115,7 +115,7 @@ last-pair-spec =
     tie.close
     (tie.spec
     returns
-    sub-x
+    sub-last
     elements-over-requires
     column-mean-requires
     chroma-word-requires
