@@ -20,7 +20,7 @@ use Rattle.rules.specs.Refusals.{first}
 use Rattle.rules.specs.Settle.{settleLines}
 use Rattle.rules.specs.Check.{Test, JudgedPlace, ByMatrix, ByVerdict, checkLines, Answers}
 use Rattle.rule_laws.proofs.Refusals.{parted, passed}
-use Rattle.samples.proofs.Tiles.{width-small, height-small}
+use Rattle.blocks.proofs.Tiles.{width-small, height-small}
 use Rattle.frames.specs.Tests.{Sized}
 use Rattle.frames.proofs.Tests.{ready}
 use Rattle.ayresokum.specs.Places.{Placed}

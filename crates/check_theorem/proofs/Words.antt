@@ -27,7 +27,7 @@ use Rattle.tolerance_laws.specs.Chroma.{chromaRow, exactChroma}
 use Rattle.tolerance_laws.proofs.Means.{averaged-low}
 use Rattle.tolerance_theorem.proofs.Accepted as tolerance
 use Rattle.samples.proofs.Codes.{size, chroma-coded}
-use Rattle.samples.proofs.Words.{reads-back, word-formed}
+use Rattle.storage.proofs.Words.{reads-back, word-formed}
 
 -- the word of a code from 0 to m that is within the tolerance is right
 right-word : (s : Settings) (bias h : ℕ) (w : Triple) (p : Pixel) (x : Fraction) → s .depth ≤ 16 → Between (pos 0) (pos (most (s .depth))) (signedCode (s .precision) bias w p) →

@@ -25,7 +25,7 @@ use Rattle.rule_laws.specs.Codes.{Low}
 use Rattle.tolerance_laws.specs.Chroma.{chromaRow}
 use Rattle.tolerance_laws.proofs.Means.{averaged-one}
 use Rattle.plane_laws.proofs.Tables.{step-le}
-use Rattle.samples.specs.Tiles.{paired, leftOf, wideAt}
+use Rattle.blocks.specs.Tiles.{paired, leftOf, wideAt}
 use Rattle.joined_codes.specs.Joined.{asRead}
 use Rattle.frames.specs.Rows.{rowPixel, Part}
 use Rattle.last_column.specs.Words.{lumaElement, pairMean, chromaElement}

@@ -21,7 +21,7 @@ use Rattle.rule_laws.specs.Codes.{Low}
 use Rattle.plane_laws.specs.Rows.{Begun}
 use Rattle.plane_laws.proofs.Tests.{lt-or-le}
 use Rattle.plane_laws.proofs.Tables.{begun-two, begun-at}
-use Rattle.samples.specs.Tiles.{paired}
+use Rattle.blocks.specs.Tiles.{paired}
 use Rattle.joined_codes.specs.Joined.{asRead}
 use Rattle.frames.specs.Rows.{rowPixel, Part}
 use Rattle.last_column.specs.Words.{pairMean}

@@ -4,7 +4,6 @@ ghost use lib.ListN.{length};
 ghost use Rattle.rules.specs.declared.YuvEndianness.the-variants.{BigEndian};
 ghost use Rattle.column_pairs.specs.Exchanged.{Exchanged};
 use rules::YuvEndianness;
-use samples::storage;
 
 fn exchange_all(n: usize, row: &mut [u16])
     requires { ⌜ n ≤ length (now row) ⌝ }

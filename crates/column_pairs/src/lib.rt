@@ -4,7 +4,7 @@ ghost use mathlib.Core.Bool.{true, false};
 ghost use Prim.Native.Nat.{_≤_};
 ghost use lib.ListN.{length};
 ghost use Rattle.rule_laws.specs.Usable.{Usable};
-ghost use Rattle.samples.specs.Tiles.{paired};
+ghost use Rattle.blocks.specs.Tiles.{paired};
 ghost use Rattle.plane_laws.specs.Rows.{Begun};
 ghost use Rattle.frames.specs.Rows.{Part};
 ghost use Rattle.last_column.specs.Words.{lumaWords, chromaWords};

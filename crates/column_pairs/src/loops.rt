@@ -6,7 +6,7 @@ ghost use Prim.Native.Nat.{_≤_};
 ghost use lib.ListN.{length};
 ghost use Rattle.rules.specs.declared.YuvChromaSubsampling.the-variants.{Yuv444};
 ghost use Rattle.rule_laws.specs.Usable.{Usable};
-ghost use Rattle.samples.specs.Tiles.{paired};
+ghost use Rattle.blocks.specs.Tiles.{paired};
 ghost use Rattle.plane_laws.specs.Rows.{Begun};
 ghost use Rattle.frames.specs.Rows.{Part};
 ghost use Rattle.last_column.specs.Columns.{evenColumns};
@@ -18,7 +18,7 @@ use joined_codes::lines;
 use rules::Settings;
 use rules::Weights;
 use rules::YuvSourceChannels;
-use samples::mean;
+use blocks::mean;
 use yuv_support::channels::get_channels_count;
 
 // Luma alone.

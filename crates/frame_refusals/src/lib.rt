@@ -8,7 +8,6 @@ use rules::Frame;
 use rules::Refusal;
 use rules::Settings;
 use rules::Verdict;
-use samples::blocks;
 use yuv_support::channels;
 use yuv_support::ranges;
 

@@ -15,8 +15,8 @@ use Rattle.rules.specs.Blocks.{block, chromaWidth, chromaHeight}
 use Rattle.rules.specs.Refusals.{line}
 use Rattle.rules.specs.Frames.{sizeOff, strideOff, lengthOff, highAt, tooLargeAt, isFound, frameLines}
 use Rattle.plane_laws.proofs.Firsts.{first-ext}
-use Rattle.samples.specs.Tiles.{leftOf, wideAt, topOf, twoAt, tiles}
-use Rattle.samples.proofs.Tiles.{block-tiles, left-below, wide-below, top-below, two-below, tiles-same}
+use Rattle.blocks.specs.Tiles.{leftOf, wideAt, topOf, twoAt, tiles}
+use Rattle.blocks.proofs.Tiles.{block-tiles, left-below, wide-below, top-below, two-below, tiles-same}
 use Rattle.frames.specs.Sources.{SameColours, SamePicture}
 
 pub pictures : (c : YuvSourceChannels) (f : Frame) (a b : List ℕ) → SameColours c f a b → SamePicture (f .width) (f .height) (picture c (f .«source_stride») a) (picture c (f .«source_stride») b)

@@ -24,7 +24,7 @@ use Rattle.rule_laws.proofs.Refusals.{bounds, passed}
 use Rattle.plane_laws.proofs.Tests.{neither}
 use Rattle.plane_laws.proofs.Tables.{step-le}
 use Rattle.plane_laws.proofs.Firsts.{not-found, none-at}
-use Rattle.samples.proofs.Tiles.{width-some}
+use Rattle.blocks.proofs.Tiles.{width-some}
 use Rattle.frames.specs.Rows.{Rows, LowPicture}
 use Rattle.frames.specs.Tests.{Sized, Strided, Laid, Ready}
 use Rattle.frames.proofs.Places.{places}

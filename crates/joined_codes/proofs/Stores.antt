@@ -25,9 +25,9 @@ use Rattle.rule_laws.specs.Codes.{Low}
 use Rattle.rule_laws.specs.Usable.{Usable}
 use Rattle.tolerance_laws.specs.Chroma.{chromaRow}
 use Rattle.samples.proofs.Codes.{chroma-coded, code-below}
-use Rattle.samples.specs.Times.{timesOf}
-use Rattle.samples.proofs.Times.{packed-times}
-use Rattle.samples.proofs.Words.{packed-fits}
+use Rattle.storage.specs.PackingFactor.{packingFactor}
+use Rattle.storage.proofs.PackingFactor.{packed-is}
+use Rattle.storage.proofs.Words.{packed-fits}
 use Rattle.joined_codes.specs.declared.lines.Line.{Line}
 use Rattle.joined_codes.specs.declared.lines.Lines.{Lines}
 use Rattle.joined_codes.specs.Joined.{beside, asRead, lineOf, lineTwice, lineSum, startOf, rowOf, belowOf, cut, linesOf, Within, Steady}
@@ -63,7 +63,7 @@ abbrev exponent : YuvBytesPacking → ℕ → ℕ
 exponent MostSignificantBytes d = 13 + (16 - d)
 exponent LeastSignificantBytes d = 13
 
-power-is : (k : YuvBytesPacking) (d : ℕ) → 8192 * timesOf k d ≡ 2 ^ exponent k d
+power-is : (k : YuvBytesPacking) (d : ℕ) → 8192 * packingFactor k d ≡ 2 ^ exponent k d
 power-is MostSignificantBytes d = sym (pow-add 2 13 (16 - d))
 power-is LeastSignificantBytes d = omega arith
 
@@ -102,9 +102,9 @@ module _ (k low high v : ℕ) (made : v ≡ low + high * 4294967296) (room : low
         let x : low / whole * whole ≤ low = omega (arith, div-add-mod' low whole) in omega (arith, q, x, room, times (high / whole)))
 
 -- ---- the words of a sum
-module _ (s : Settings) (deep : s .depth ≤ 16) {total : ℤ} {a b : ℕ} (h : Halves total (8192 * timesOf (s .packing) (s .depth)) a b) where
+module _ (s : Settings) (deep : s .depth ≤ 16) {total : ℤ} {a b : ℕ} (h : Halves total (8192 * packingFactor (s .packing) (s .depth)) a b) where
   abbrev t : ℕ
-  t = timesOf (s .packing) (s .depth)
+  t = packingFactor (s .packing) (s .depth)
 
   pub not-negative : T (nonNeg total)
   not-negative = subst⁻¹ (λ (z : ℤ). T (nonNeg z)) (h .sum) tt
@@ -121,14 +121,14 @@ module _ (s : Settings) (deep : s .depth ≤ 16) {total : ℤ} {a b : ℕ} (h : 
         ap (λ (n : ℕ). cut v n % 4294967296 / 8192) eb
         ∙ first-kept k (h .low) (h .high) v made (h .room) (power-small (s .packing) (s .depth)) t (power-is (s .packing) (s .depth))
         ∙ ap (λ (n : ℕ). n * t) (h .first)
-        ∙ packed-times (s .packing) (s .depth) a
+        ∙ packed-is (s .packing) (s .depth) a
 
     pub second-word : cut v below / 4294967296 / 8192 ≡ packed (s .packing) (s .depth) b
     second-word =
         ap (λ (n : ℕ). cut v n / 4294967296 / 8192) eb
         ∙ second-kept k (h .low) (h .high) v made (h .room) (power-small (s .packing) (s .depth)) t (power-is (s .packing) (s .depth))
         ∙ ap (λ (n : ℕ). n * t) (h .second)
-        ∙ packed-times (s .packing) (s .depth) b
+        ∙ packed-is (s .packing) (s .depth) b
 
     pub storable : a < 2 ^ s .depth → b < 2 ^ s .depth → (cut v below % 4294967296 / 8192 ≤ 65535) × (cut v below / 4294967296 / 8192 ≤ 65535)
     storable la lb =
@@ -165,9 +165,9 @@ module _ (s : Settings) (w : Weights) (u : Usable s w) (l : Lines) (e : l ≡ li
         subst⁻¹ (λ (x : Line). Steady x (beside (p .red) (q .red)) (beside (p .green) (q .green)) (beside (p .blue) (q .blue))) luma-line
         (steady-twice s (u .reach) lumaBias (bias-y (s .depth) (s .range) (u .reach .shallow)) (lumaRow w) p q (luma-within u) hp hq)
 
-    pub luma-halves : Halves lumaTotal (8192 * timesOf (s .packing) (s .depth)) (code (s .precision) lumaBias (lumaRow w) (asRead (s .channels) p)) (code (s .precision) lumaBias (lumaRow w) (asRead (s .channels) q))
+    pub luma-halves : Halves lumaTotal (8192 * packingFactor (s .packing) (s .depth)) (code (s .precision) lumaBias (lumaRow w) (asRead (s .channels) p)) (code (s .precision) lumaBias (lumaRow w) (asRead (s .channels) q))
     luma-halves =
-        subst⁻¹ (λ (x : Line). Halves (lineSum x (beside (p .red) (q .red)) (beside (p .green) (q .green)) (beside (p .blue) (q .blue))) (8192 * timesOf (s .packing) (s .depth)) (code (s .precision) lumaBias (lumaRow w) (asRead (s .channels) p)) (code (s .precision) lumaBias (lumaRow w) (asRead (s .channels) q))) luma-line
+        subst⁻¹ (λ (x : Line). Halves (lineSum x (beside (p .red) (q .red)) (beside (p .green) (q .green)) (beside (p .blue) (q .blue))) (8192 * packingFactor (s .packing) (s .depth)) (code (s .precision) lumaBias (lumaRow w) (asRead (s .channels) p)) (code (s .precision) lumaBias (lumaRow w) (asRead (s .channels) q))) luma-line
         (twice s (u .reach) lumaBias (lumaRow w) p q (u .luma-coded _ (read-low (s .channels) hp)) (u .luma-coded _ (read-low (s .channels) hq)))
 
   module _ (p : Pixel) (low : Low (most (s .depth)) p) where
@@ -185,7 +185,7 @@ module _ (s : Settings) (w : Weights) (u : Usable s w) (l : Lines) (e : l ≡ li
         subst⁻¹ (λ (x : Line). Steady x (p .red) (p .green) (p .blue)) chroma-line
         (steady s (u .reach) (biasUV (s .depth)) (bias-uv (s .depth) (u .reach .shallow)) _ _ p (chroma-within u (isU (s .order) 0)) (chroma-within u (isU (s .order) 1)) low)
 
-    pub chroma-halves : Halves (lineSum (l .chroma) (p .red) (p .green) (p .blue)) (8192 * timesOf (s .packing) (s .depth)) (code (s .precision) (biasUV (s .depth)) (chromaRow (isU (s .order) 0) w) seen) (code (s .precision) (biasUV (s .depth)) (chromaRow (isU (s .order) 1) w) seen)
+    pub chroma-halves : Halves (lineSum (l .chroma) (p .red) (p .green) (p .blue)) (8192 * packingFactor (s .packing) (s .depth)) (code (s .precision) (biasUV (s .depth)) (chromaRow (isU (s .order) 0) w) seen) (code (s .precision) (biasUV (s .depth)) (chromaRow (isU (s .order) 1) w) seen)
     chroma-halves =
-        subst⁻¹ (λ (x : Line). Halves (lineSum x (p .red) (p .green) (p .blue)) (8192 * timesOf (s .packing) (s .depth)) (code (s .precision) (biasUV (s .depth)) (chromaRow (isU (s .order) 0) w) seen) (code (s .precision) (biasUV (s .depth)) (chromaRow (isU (s .order) 1) w) seen)) chroma-line
+        subst⁻¹ (λ (x : Line). Halves (lineSum x (p .red) (p .green) (p .blue)) (8192 * packingFactor (s .packing) (s .depth)) (code (s .precision) (biasUV (s .depth)) (chromaRow (isU (s .order) 0) w) seen) (code (s .precision) (biasUV (s .depth)) (chromaRow (isU (s .order) 1) w) seen)) chroma-line
         (halves s (u .reach) (biasUV (s .depth)) _ _ p (chroma-coded s w (isU (s .order) 0) u _ (read-low (s .channels) low)) (chroma-coded s w (isU (s .order) 1) u _ (read-low (s .channels) low)))

@@ -17,25 +17,25 @@ use Rattle.rules.specs.Sample.{weighted, beforeDivision, signedCode, code}
 use Rattle.rule_laws.specs.Codes.{Low, Between}
 use Rattle.rule_laws.specs.Usable.{Reach}
 use Rattle.integer_laws.proofs.Differences.{pp, np, Is, is-self, is-pos, is-add, is-times, is-shift, is-same, abs-plus, abs-mul}
-use Rattle.samples.specs.Times.{timesOf}
-use Rattle.samples.proofs.Times.{times-some, times-few, times-room}
+use Rattle.storage.specs.PackingFactor.{packingFactor}
+use Rattle.storage.proofs.PackingFactor.{factor-some, factor-few, factor-room}
 use Rattle.joined_codes.specs.Joined.{join, beside, scaleOf, scaledRow, turned, inOrder, asRead, lineOf, lineTwice, lineSum, startOf, rowOf, Within, Steady}
 
 -- ---- the scale
 
-pub scale-times : (s : Settings) → s .precision ≤ 13 → 2 ^ s .precision * scaleOf s ≡ 8192 * timesOf (s .packing) (s .depth)
+pub scale-times : (s : Settings) → s .precision ≤ 13 → 2 ^ s .precision * scaleOf s ≡ 8192 * packingFactor (s .packing) (s .depth)
 scale-times s h =
-    let t = timesOf (s .packing) (s .depth) in
+    let t = packingFactor (s .packing) (s .depth) in
     let e : s .precision + (13 - s .precision) ≡ 13 = omega arith in
     sym (mul-assoc (2 ^ s .precision) (2 ^ (13 - s .precision)) t) ∙ ap (λ (n : ℕ). n * t) (sym (pow-add 2 (s .precision) (13 - s .precision)) ∙ ap (λ (n : ℕ). 2 ^ n) e)
 
 pub scale-some : (s : Settings) → 1 ≤ scaleOf s
 scale-some s =
-    let x : 1 * 1 ≤ scaleOf s = mul-le-mul (pow-pos (13 - s .precision)) (times-some (s .packing) (s .depth)) in x
+    let x : 1 * 1 ≤ scaleOf s = mul-le-mul (pow-pos (13 - s .precision)) (factor-some (s .packing) (s .depth)) in x
 
 pub scale-few : (s : Settings) → Reach s → scaleOf s ≤ 262144
 scale-few s r =
-    let x : scaleOf s ≤ 4096 * 64 = mul-le-mul (pow-mono {i = 13 - s .precision} {j = 12} (omega (arith, r .coarse))) (times-few (s .packing) (s .depth) (r .shallow)) in x
+    let x : scaleOf s ≤ 4096 * 64 = mul-le-mul (pow-mono {i = 13 - s .precision} {j = 12} (omega (arith, r .coarse))) (factor-few (s .packing) (s .depth) (r .shallow)) in x
 
 -- ---- sums
 
@@ -118,7 +118,7 @@ under-next n divisor c h e =
 
 module _ (s : Settings) (reach : Reach s) (bias : ℕ) where
   abbrev divisor : ℕ
-  divisor = 8192 * timesOf (s .packing) (s .depth)
+  divisor = 8192 * packingFactor (s .packing) (s .depth)
 
   abbrev coded : Triple → Pixel → ℕ
   coded w p = code (s .precision) bias w (asRead (s .channels) p)
@@ -143,18 +143,18 @@ module _ (s : Settings) (reach : Reach s) (bias : ℕ) where
   row w p b =
       let seen = asRead (s .channels) p in
       let m = most (s .depth) in
-      let t = timesOf (s .packing) (s .depth) in
+      let t = packingFactor (s .packing) (s .depth) in
       let g = counted (beforeDivision (s .precision) bias w seen) (2 ^ s .precision) m b in
       let e : 2 ^ s .precision * scaleOf s ≡ divisor = scale-times s (reach .fine) in
       let q : g .number * scaleOf s / (2 ^ s .precision * scaleOf s) ≡ g .number / 2 ^ s .precision = mul-div-mul-right (g .number) (2 ^ s .precision) (scale-some s) in
       let r : g .number * scaleOf s / divisor ≡ g .number / 2 ^ s .precision = subst⁻¹ (λ (n : ℕ). g .number * scaleOf s / n ≡ g .number / 2 ^ s .precision) (sym e) q in
-      let some : 0 < divisor = omega (arith, times-some (s .packing) (s .depth)) in
+      let some : 0 < divisor = omega (arith, factor-some (s .packing) (s .depth)) in
       let up : g .number / 2 ^ s .precision + 1 ≤ 2 ^ s .depth = omega (arith, g .small, pow-pos (s .depth)) in
       let l : (g .number / 2 ^ s .precision + 1) * divisor ≤ 2 ^ s .depth * divisor = mul-le-mul up (same divisor) in
       record {
         number = g .number * scaleOf s;
         is = row-sum w p ∙ ap (λ (z : ℤ). z *ℤ pos (scaleOf s)) (g .is);
-        room = omega (arith, under-next (g .number * scaleOf s) divisor (g .number / 2 ^ s .precision) some r, l, times-room (s .packing) (s .depth) (reach .deep));
+        room = omega (arith, under-next (g .number * scaleOf s) divisor (g .number / 2 ^ s .precision) some r, l, factor-room (s .packing) (s .depth) (reach .deep));
         code-is = r ∙ sym (g .quotient);
       }
     where
@@ -189,14 +189,14 @@ in-order-within Bgr h = record { red = h .blue; green = h .green; blue = h .red 
 
 -- a weight of at most 2^P, scaled
 module _ (s : Settings) (r : Reach s) where
-  pub scaled-small : (z : ℤ) → natAbs z ≤ 2 ^ s .precision → natAbs z * scaleOf s ≤ 8192 * timesOf (s .packing) (s .depth)
+  pub scaled-small : (z : ℤ) → natAbs z ≤ 2 ^ s .precision → natAbs z * scaleOf s ≤ 8192 * packingFactor (s .packing) (s .depth)
   scaled-small z l = omega (arith, scale-times s (r .fine), mul-le-mul l (same (scaleOf s)))
     where
       same : (n : ℕ) → n ≤ n
       same n = omega arith
 
   pub scaled-under : (z : ℤ) → natAbs z ≤ 2 ^ s .precision → natAbs z * scaleOf s ≤ 524288
-  scaled-under z l = omega (arith, scaled-small z l, times-few (s .packing) (s .depth) (r .shallow))
+  scaled-under z l = omega (arith, scaled-small z l, factor-few (s .packing) (s .depth) (r .shallow))
 
   -- a row as the samples stand, with the scale that was worked out
   pub scalable : (w : Triple) → Within (2 ^ s .precision) w → {scale : ℕ} {v : Triple} → scale ≡ scaleOf s → v ≡ inOrder (s .channels) w
@@ -205,10 +205,10 @@ module _ (s : Settings) (r : Reach s) where
       let o = in-order-within (s .channels) h in
       rw f (rw e (scale-few s r, scaled-under (inOrder (s .channels) w .red) (o .red), scaled-under (inOrder (s .channels) w .green) (o .green), scaled-under (inOrder (s .channels) w .blue) (o .blue)))
 
-  scaled-abs : (z : ℤ) → natAbs z ≤ 2 ^ s .precision → natAbs (z *ℤ pos (scaleOf s)) ≤ 8192 * timesOf (s .packing) (s .depth)
+  scaled-abs : (z : ℤ) → natAbs z ≤ 2 ^ s .precision → natAbs (z *ℤ pos (scaleOf s)) ≤ 8192 * packingFactor (s .packing) (s .depth)
   scaled-abs z l = omega (arith, abs-mul z (scaleOf s), scaled-small z l)
 
-  pub row-within : (w : Triple) → Within (2 ^ s .precision) w → Within (8192 * timesOf (s .packing) (s .depth)) (rowOf s w)
+  pub row-within : (w : Triple) → Within (2 ^ s .precision) w → Within (8192 * packingFactor (s .packing) (s .depth)) (rowOf s w)
   row-within w h =
       let c = s .channels in
       let o = in-order-within c h in
@@ -217,7 +217,7 @@ module _ (s : Settings) (r : Reach s) where
   pub row-small : (w : Triple) → Within (2 ^ s .precision) w → Within 1073741823 (rowOf s w)
   row-small w h =
       let x = row-within w h in
-      let t = times-few (s .packing) (s .depth) (r .shallow) in
+      let t = factor-few (s .packing) (s .depth) (r .shallow) in
       record { red = omega (arith, x .red, t); green = omega (arith, x .green, t); blue = omega (arith, x .blue, t) }
 
   pub start-small : (bias : ℕ) → bias + 1 ≤ 2 ^ s .depth → startOf s bias ≤ 536870911
@@ -226,9 +226,9 @@ module _ (s : Settings) (r : Reach s) where
       let start : ℕ = bias * q + (2 ^ (s .precision - 1) - 1) in
       let k : start + 1 ≤ (bias + 1) * q = omega (arith, pow-mono {i = s .precision - 1} {j = s .precision} (omega arith), pow-pos (s .precision - 1)) in
       let t : (start + 1) * scaleOf s ≤ (bias + 1) * q * scaleOf s = mul-le-mul k (same (scaleOf s)) in
-      let e : (bias + 1) * q * scaleOf s ≡ (bias + 1) * (8192 * timesOf (s .packing) (s .depth)) = mul-assoc (bias + 1) q (scaleOf s) ∙ ap (λ (n : ℕ). (bias + 1) * n) (scale-times s (r .fine)) in
-      let l : (bias + 1) * timesOf (s .packing) (s .depth) ≤ 2 ^ s .depth * timesOf (s .packing) (s .depth) = mul-le-mul b (same (timesOf (s .packing) (s .depth))) in
-      by start (scaleOf s) ((bias + 1) * q * scaleOf s) t (omega (arith, e, l, times-room (s .packing) (s .depth) (r .deep))) (scale-some s)
+      let e : (bias + 1) * q * scaleOf s ≡ (bias + 1) * (8192 * packingFactor (s .packing) (s .depth)) = mul-assoc (bias + 1) q (scaleOf s) ∙ ap (λ (n : ℕ). (bias + 1) * n) (scale-times s (r .fine)) in
+      let l : (bias + 1) * packingFactor (s .packing) (s .depth) ≤ 2 ^ s .depth * packingFactor (s .packing) (s .depth) = mul-le-mul b (same (packingFactor (s .packing) (s .depth))) in
+      by start (scaleOf s) ((bias + 1) * q * scaleOf s) t (omega (arith, e, l, factor-room (s .packing) (s .depth) (r .deep))) (scale-some s)
     where
       same : (n : ℕ) → n ≤ n
       same n = omega arith
@@ -237,17 +237,17 @@ module _ (s : Settings) (r : Reach s) where
       by a s t h e l = omega arith
 
   -- m times what a code is multiplied by
-  most-times : most (s .depth) * timesOf (s .packing) (s .depth) ≤ 65535
-  most-times = by (most (s .depth)) (timesOf (s .packing) (s .depth)) (2 ^ s .depth) (omega (arith, pow-pos (s .depth))) (times-room (s .packing) (s .depth) (r .deep)) (times-some (s .packing) (s .depth))
+  most-times : most (s .depth) * packingFactor (s .packing) (s .depth) ≤ 65535
+  most-times = by (most (s .depth)) (packingFactor (s .packing) (s .depth)) (2 ^ s .depth) (omega (arith, pow-pos (s .depth))) (factor-room (s .packing) (s .depth) (r .deep)) (factor-some (s .packing) (s .depth))
     where
       by : (m t p : ℕ) → m + 1 ≡ p → p * t ≤ 65536 → 1 ≤ t → m * t ≤ 65535
       by m t p e h l = let q : p * t ≡ (m + 1) * t = ap (λ (n : ℕ). n * t) (sym e) in omega arith
 
   -- a weight of two rows times a sample, and a weight of one row times two samples
-  joined-by-one : (n x : ℕ) → n ≤ 8192 * timesOf (s .packing) (s .depth) * 4294967297 → x ≤ most (s .depth) → n * x ≤ 2305807825378467840
+  joined-by-one : (n x : ℕ) → n ≤ 8192 * packingFactor (s .packing) (s .depth) * 4294967297 → x ≤ most (s .depth) → n * x ≤ 2305807825378467840
   joined-by-one n x h l = omega (arith, mul-le-mul h l, most-times)
 
-  one-by-joined : (n x : ℕ) → n ≤ 8192 * timesOf (s .packing) (s .depth) → x ≤ most (s .depth) * 4294967297 → n * x ≤ 2305807825378467840
+  one-by-joined : (n x : ℕ) → n ≤ 8192 * packingFactor (s .packing) (s .depth) → x ≤ most (s .depth) * 4294967297 → n * x ≤ 2305807825378467840
   one-by-joined n x h l = omega (arith, mul-le-mul h l, most-times)
 
   module _ (bias : ℕ) (inside : bias + 1 ≤ 2 ^ s .depth) where

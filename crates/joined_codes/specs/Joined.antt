@@ -12,7 +12,7 @@ use Rattle.rules.specs.Ranges.{biasY, biasUV}
 use Rattle.rules.specs.Weights.{lumaRow}
 use Rattle.rules.specs.Channels.{isU}
 use Rattle.tolerance_laws.specs.Chroma.{chromaRow}
-use Rattle.samples.specs.Times.{timesOf}
+use Rattle.storage.specs.PackingFactor.{packingFactor}
 use Rattle.joined_codes.specs.declared.lines.Line.{Line}
 use Rattle.joined_codes.specs.declared.lines.Lines.{Lines}
 
@@ -26,7 +26,7 @@ beside a b = a + b * 4294967296
 
 -- 2^13 over 2^P, times what a code is multiplied by
 abbrev pub scaleOf : Settings → ℕ
-scaleOf s = 2 ^ (13 - s .precision) * timesOf (s .packing) (s .depth)
+scaleOf s = 2 ^ (13 - s .precision) * packingFactor (s .packing) (s .depth)
 
 abbrev pub scaledRow : ℕ → Triple → Triple
 scaledRow scale w = record { red = w .red *ℤ pos scale; green = w .green *ℤ pos scale; blue = w .blue *ℤ pos scale }
@@ -76,7 +76,7 @@ rowOf s w = scaledRow (scaleOf s) (inOrder (s .channels) w)
 
 -- the bits below the words in both halves of a sum
 abbrev pub belowOf : Settings → ℕ
-belowOf s = (8192 * timesOf (s .packing) (s .depth) - 1) * 4294967297
+belowOf s = (8192 * packingFactor (s .packing) (s .depth) - 1) * 4294967297
 
 -- a sum without them
 abbrev pub cut : ℕ → ℕ → ℕ

@@ -10,7 +10,6 @@ use rules::Triple;
 use rules::Weights;
 use rules::YuvSourceChannels;
 use samples::code;
-use samples::storage;
 use samples::word;
 use yuv_support::ranges;
 
@@ -49,7 +48,7 @@ fn scale_of(s: Settings) -> u32
     ensures { λ r. ⌜ r ≡ scaleOf s ⌝ }
 {
     let packing = s.packing;
-    (1u32 << (13 - s.precision)) * (storage::times(packing, s.depth) as u32)
+    (1u32 << (13 - s.precision)) * (storage::packing_factor(packing, s.depth) as u32)
 }
 
 fn scaled(scale: u32, weight: i32) -> i32
@@ -159,7 +158,7 @@ fn below_of(s: Settings) -> u64
     ensures { λ r. ⌜ r ≡ belowOf s ⌝ }
 {
     let packing = s.packing;
-    (8192 * (storage::times(packing, s.depth) as u64) - 1) * 4294967297
+    (8192 * (storage::packing_factor(packing, s.depth) as u64) - 1) * 4294967297
 }
 
 // Worked out once for a row.

@@ -7,7 +7,7 @@ use borrow.Author.Tests.{le-ltb}
 use Rattle.rules.specs.declared.YuvChromaSubsampling.{YuvChromaSubsampling}
 use Rattle.rules.specs.declared.YuvChromaSubsampling.the-variants.{Yuv420, Yuv422, Yuv444}
 use Rattle.rules.specs.Blocks.{chromaWidth}
-use Rattle.samples.specs.Tiles.{leftOf, wideAt}
+use Rattle.blocks.specs.Tiles.{leftOf, wideAt}
 use Rattle.last_column.specs.Columns.{evenColumns, elementsOver}
 
 pub odd : (width : ℕ) → (width % 2 ≡ 0 → ⊥) → width % 2 ≡ 1

@@ -12,8 +12,8 @@ use Rattle.rules.specs.Blocks.{averaged, chromaWidth}
 use Rattle.rules.specs.Convert.{wordOf, chromaWord}
 use Rattle.tolerance_laws.specs.Chroma.{chromaRow}
 use Rattle.tolerance_laws.proofs.Means.{averaged-one}
-use Rattle.samples.specs.Tiles.{leftOf, wideAt, topOf, twoAt, tiles}
-use Rattle.samples.proofs.Tiles.{block-tiles, left-below, wide-below, tiles-same}
+use Rattle.blocks.specs.Tiles.{leftOf, wideAt, topOf, twoAt, tiles}
+use Rattle.blocks.proofs.Tiles.{block-tiles, left-below, wide-below, tiles-same}
 use Rattle.last_column.specs.Words.{pairMean, chromaElement}
 
 -- an element by cases is the word of the rules

@@ -12,7 +12,7 @@ use Rattle.rules.specs.Channels.{isU}
 use Rattle.rules.specs.Blocks.{averaged}
 use Rattle.rules.specs.Convert.{wordOf}
 use Rattle.tolerance_laws.specs.Chroma.{chromaRow}
-use Rattle.samples.specs.Tiles.{leftOf, wideAt, tiles}
+use Rattle.blocks.specs.Tiles.{leftOf, wideAt, tiles}
 use Rattle.frames.specs.Rows.{rowPixel}
 
 -- element x of a luma row

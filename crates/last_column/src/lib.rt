@@ -6,7 +6,7 @@ ghost use lib.ListN.{length};
 ghost use Rattle.rules.specs.Channels.{count};
 ghost use Rattle.rules.specs.Blocks.{averaged, chromaWidth};
 ghost use Rattle.rule_laws.specs.Usable.{Usable};
-ghost use Rattle.samples.specs.Tiles.{tiles};
+ghost use Rattle.blocks.specs.Tiles.{tiles};
 ghost use Rattle.plane_laws.specs.Rows.{Finished};
 ghost use Rattle.frames.specs.Rows.{rowPixel, Part};
 ghost use Rattle.last_column.specs.Words.{lumaWords, chromaWords};
@@ -17,7 +17,7 @@ use rules::Settings;
 use rules::Weights;
 use rules::YuvChromaSubsampling;
 use rules::YuvSourceChannels;
-use samples::mean;
+use blocks::mean;
 use samples::word;
 
 // The luma of an odd last column.

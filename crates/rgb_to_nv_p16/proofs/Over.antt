@@ -7,8 +7,8 @@ use borrow.Author.Tests.{ltb-true, ltb-false}
 use Rattle.rules.specs.declared.YuvChromaSubsampling.{YuvChromaSubsampling}
 use Rattle.rules.specs.declared.YuvChromaSubsampling.the-variants.{Yuv420, Yuv422, Yuv444}
 use Rattle.rules.specs.Blocks.{chromaHeight}
-use Rattle.samples.specs.Tiles.{topOf, twoAt}
-use Rattle.samples.proofs.Tiles.{top-below, two-below}
+use Rattle.blocks.specs.Tiles.{topOf, twoAt}
+use Rattle.blocks.proofs.Tiles.{top-below, two-below}
 use Rattle.rgb_to_nv_p16.specs.Turns.{rowsOver}
 
 module _ (height row : ℕ) where

@@ -20,8 +20,8 @@ use Rattle.rules.specs.Planes.{tabulate, written}
 use Rattle.rules.specs.Convert.{wordOf, lumaWord, chromaWord}
 use Rattle.plane_laws.proofs.Tables.{tabulate-ext}
 use Rattle.plane_laws.proofs.Planes.{put, length-plane, plane-row}
-use Rattle.samples.specs.Tiles.{paired, topOf, twoAt, secondOf}
-use Rattle.samples.proofs.Tiles.{top-below, two-below}
+use Rattle.blocks.specs.Tiles.{paired, topOf, twoAt, secondOf}
+use Rattle.blocks.proofs.Tiles.{top-below, two-below}
 use Rattle.frames.specs.Rows.{rowPixel, Shows, Rows}
 use Rattle.last_column.specs.Words.{lumaElement, chromaElement}
 use Rattle.frames.specs.Tests.{Ready}

@@ -11,7 +11,7 @@ use Rattle.rules.specs.Channels.{Picture, picture}
 use Rattle.rules.specs.Blocks.{chromaWidth, chromaHeight}
 use Rattle.rules.specs.Planes.{written}
 use Rattle.rules.specs.Convert.{lumaWord, chromaWord}
-use Rattle.samples.specs.Tiles.{topOf, twoAt}
+use Rattle.blocks.specs.Tiles.{topOf, twoAt}
 
 -- a chroma row, the first luma row over it, and whether there is a second
 pub record Turn (s : Settings) (f : Frame) (row top : ℕ) (two : Bool) : Type 0 where

@@ -14,7 +14,6 @@ use rules::Frame;
 use rules::Settings;
 use rules::Verdict;
 use rules::Weights;
-use samples::blocks;
 
 // Luma row `top` and chroma row `row`, from source row `top`, and for chroma from the next one where there are two.
 fn lend_row(

@@ -6,7 +6,7 @@ ghost use lib.ListN.{length};
 ghost use Rattle.rules.specs.Blocks.{chromaWidth};
 ghost use Rattle.rules.specs.Planes.{tabulate};
 ghost use Rattle.rule_laws.specs.Usable.{Usable};
-ghost use Rattle.samples.specs.Tiles.{paired};
+ghost use Rattle.blocks.specs.Tiles.{paired};
 ghost use Rattle.frames.specs.Rows.{Part};
 ghost use Rattle.last_column.specs.Words.{lumaWords, chromaWords};
 ghost use Rattle.column_pairs.specs.Pairs.{RowLengths};

@@ -10,8 +10,8 @@ use Rattle.rules.specs.declared.Named.{Named}
 use Rattle.rules.specs.declared.Pixel.{Pixel}
 use Rattle.rules.specs.Matrices.{kg}
 use Rattle.rules.specs.Storage.{exchanged, stored}
-use Rattle.samples.specs.Tiles.{tiles}
-use Rattle.samples.specs.Times.{timesOf}
+use Rattle.blocks.specs.Tiles.{tiles}
+use Rattle.storage.specs.PackingFactor.{packingFactor}
 use Rattle.fractions.specs.declared.Exact.{Exact}
 use Rattle.fractions.specs.declared.Sums.{Sums}
 use Rattle.fractions.specs.Bound.{apart}
@@ -37,10 +37,10 @@ shared-times k range t z = sum-times (k .kr) (kg k) (k .kb) range t (z .red) (z 
 
 -- ---- a word by its gauge
 module _ (s : Settings) (v : ℕ) (w : isFormed s v ≡ true) where
-  gauged : (bias : ℕ) (l : Limit) (plus minus : ℕ) {plus′ minus′ : ℕ} → plus′ ≡ plus * timesOf (s .packing) (s .depth) → minus′ ≡ minus * timesOf (s .packing) (s .depth) →
-      wordNear (gaugeOf bias l (timesOf (s .packing) (s .depth))) plus′ minus′ (exchanged (s .endianness) v) ≡ true → nearBy s (l .bound) (record { bias = bias; plus = plus; minus = minus; under = l .under }) v ≡ true
+  gauged : (bias : ℕ) (l : Limit) (plus minus : ℕ) {plus′ minus′ : ℕ} → plus′ ≡ plus * packingFactor (s .packing) (s .depth) → minus′ ≡ minus * packingFactor (s .packing) (s .depth) →
+      wordNear (gaugeOf bias l (packingFactor (s .packing) (s .depth))) plus′ minus′ (exchanged (s .endianness) v) ≡ true → nearBy s (l .bound) (record { bias = bias; plus = plus; minus = minus; under = l .under }) v ≡ true
   gauged bias l plus minus {plus′} {minus′} ep em h =
-      let t = timesOf (s .packing) (s .depth) in
+      let t = packingFactor (s .packing) (s .depth) in
       let c = stored (s .packing) (s .endianness) (s .depth) v in
       let high : exchanged (s .endianness) v * l .under ≡ c * t * l .under = ap (λ (n : ℕ). n * l .under) (word-times s v w) in
       let left : exchanged (s .endianness) v * l .under + minus′ ≡ (c * l .under + minus) * t = omega (arith, high, em) in
@@ -48,20 +48,20 @@ module _ (s : Settings) (v : ℕ) (w : isFormed s v ≡ true) where
       near-times s (c * l .under + minus) (bias * l .under + plus) (l .bound) (sym (λ i. leb (apart (left i) (right i)) (l .bound * t)) ∙ h)
 
   module _ (k : Named) (j : Judge) (h : Judging s k j) where
-    pub luma-true : (p : Pixel) → lumaNear (gaugeOf (j .ranges .«bias_y») (j .luma) (timesOf (s .packing) (s .depth))) (sharesOf k (j .ranges .«range_y») (timesOf (s .packing) (s .depth))) (sumsOf (p ∷ [])) (exchanged (s .endianness) v) ≡ true →
+    pub luma-true : (p : Pixel) → lumaNear (gaugeOf (j .ranges .«bias_y») (j .luma) (packingFactor (s .packing) (s .depth))) (sharesOf k (j .ranges .«range_y») (packingFactor (s .packing) (s .depth))) (sumsOf (p ∷ [])) (exchanged (s .endianness) v) ≡ true →
         pixelRight s k p v ≡ true
     luma-true p e =
         let range = j .ranges .«range_y» in
         let bias = j .ranges .«bias_y» in
         let z = sumsOf (p ∷ []) in
         let x : Exact = record { bias = bias; plus = blend k z * range; minus = 0; under = j .luma .under } in
-        let none : 0 ≡ 0 * timesOf (s .packing) (s .depth) = omega arith in
+        let none : 0 ≡ 0 * packingFactor (s .packing) (s .depth) = omega arith in
         let over = part-alone {plus = blend k z * range} {a = blend k z * range} refl in
         sym (formed s (j .luma .bound) x v w ∙ luma-judged s k j h v p x (λ i. record { bias = bias; over = over i; under = j .luma .under }))
-        ∙ gauged bias (j .luma) (blend k z * range) 0 (shared-times k range (timesOf (s .packing) (s .depth)) z) none e
+        ∙ gauged bias (j .luma) (blend k z * range) 0 (shared-times k range (packingFactor (s .packing) (s .depth)) z) none e
 
     pub chroma-true : (u a b : Bool) (t l : ℕ → Pixel) (x : ℕ) → let z = sumsOf (tiles a b t l x) in
-        chromaNear (gaugeOf (j .ranges .«bias_uv») (ownLimit j u a b) (timesOf (s .packing) (s .depth))) (sharesOf k (j .ranges .«range_uv») (timesOf (s .packing) (s .depth))) (ownSum u z) z (exchanged (s .endianness) v) ≡ true →
+        chromaNear (gaugeOf (j .ranges .«bias_uv») (ownLimit j u a b) (packingFactor (s .packing) (s .depth))) (sharesOf k (j .ranges .«range_uv») (packingFactor (s .packing) (s .depth))) (ownSum u z) z (exchanged (s .endianness) v) ≡ true →
         blockRight s k u (tiles a b t l x) v ≡ true
     chroma-true u a b t l x e =
         let range = j .ranges .«range_uv» in
@@ -72,4 +72,4 @@ module _ (s : Settings) (v : ℕ) (w : isFormed s v ≡ true) where
         let y : Exact = record { bias = bias; plus = plus; minus = blend k z * range; under = q .under } in
         let over = parts-times {plus = plus} {minus = blend k z * range} (10000 * ownSum u z) (blend k z) range refl refl in
         sym (formed s (q .bound) y v w ∙ chroma-judged s k j h v u a b t l x {q = q} {z = z} y refl refl (λ i. record { bias = bias; over = over i; under = q .under }))
-        ∙ gauged bias q plus (blend k z * range) (own-times range (timesOf (s .packing) (s .depth)) (ownSum u z)) (shared-times k range (timesOf (s .packing) (s .depth)) z) e
+        ∙ gauged bias q plus (blend k z * range) (own-times range (packingFactor (s .packing) (s .depth)) (ownSum u z)) (shared-times k range (packingFactor (s .packing) (s .depth)) z) e

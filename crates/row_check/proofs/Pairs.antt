@@ -15,7 +15,7 @@ use Rattle.rules.specs.declared.YuvChromaSubsampling.the-variants.{Yuv420, Yuv4
 use Rattle.rules.specs.Channels.{uAt, vAt, isU}
 use Rattle.rules.specs.Blocks.{chromaWidth}
 use Rattle.integer_laws.proofs.Tests.{both}
-use Rattle.samples.specs.Tiles.{paired, leftOf, wideAt}
+use Rattle.blocks.specs.Tiles.{paired, leftOf, wideAt}
 use Rattle.fractions.specs.declared.Sums.{Sums}
 use Rattle.frames.specs.Rows.{rowPixel}
 use Rattle.sample_check.specs.Samples.{blockRight, tiled, tileOf, elementRight}

@@ -9,7 +9,7 @@ use Rattle.rules.specs.declared.Settings.{Settings}
 use Rattle.rules.specs.declared.Named.{Named}
 use Rattle.rules.specs.Channels.{uAt, vAt}
 use Rattle.rules.specs.Blocks.{chromaWidth}
-use Rattle.samples.specs.Tiles.{paired, leftOf, tiles}
+use Rattle.blocks.specs.Tiles.{paired, leftOf, tiles}
 use Rattle.fractions.specs.declared.Sums.{Sums}
 use Rattle.fractions.specs.Sums.{sumsOf}
 use Rattle.frames.specs.Rows.{rowPixel}

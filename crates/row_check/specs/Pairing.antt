@@ -9,8 +9,8 @@ use Rattle.rules.specs.declared.YuvChromaSubsampling.{YuvChromaSubsampling}
 use Rattle.rules.specs.declared.YuvChromaSubsampling.the-variants.{Yuv420, Yuv422, Yuv444}
 use Rattle.rules.specs.Channels.{uAt, vAt}
 use Rattle.rules.specs.Storage.{exchanged}
-use Rattle.samples.specs.Tiles.{paired}
-use Rattle.samples.specs.Times.{timesOf}
+use Rattle.blocks.specs.Tiles.{paired}
+use Rattle.storage.specs.PackingFactor.{packingFactor}
 use Rattle.fractions.specs.declared.Sums.{Sums}
 use Rattle.sample_check.specs.declared.judge.Judge.{Judge}
 use Rattle.sample_check.specs.Samples.{ownLimit}
@@ -29,9 +29,9 @@ rulerOf s k j two = record {
   channels = s .channels;
   endianness = s .endianness;
   order = s .order;
-  shares = sharesOf k (j .ranges .«range_uv») (timesOf (s .packing) (s .depth));
-  cb = gaugeOf (j .ranges .«bias_uv») (ownLimit j true (paired (s .subsampling)) two) (timesOf (s .packing) (s .depth));
-  cr = gaugeOf (j .ranges .«bias_uv») (ownLimit j false (paired (s .subsampling)) two) (timesOf (s .packing) (s .depth));
+  shares = sharesOf k (j .ranges .«range_uv») (packingFactor (s .packing) (s .depth));
+  cb = gaugeOf (j .ranges .«bias_uv») (ownLimit j true (paired (s .subsampling)) two) (packingFactor (s .packing) (s .depth));
+  cr = gaugeOf (j .ranges .«bias_uv») (ownLimit j false (paired (s .subsampling)) two) (packingFactor (s .packing) (s .depth));
 }
 
 -- the U of a pair by Cb's gauge, its V by Cr's

@@ -6,7 +6,7 @@ ghost use Prim.Native.Nat.{_+_, _*_, _/_, _<_, _≤_};
 ghost use lib.ListN.{length};
 ghost use Rattle.rules.specs.Channels.{count};
 ghost use Rattle.rules.specs.Blocks.{chromaWidth};
-ghost use Rattle.samples.specs.Tiles.{paired, leftOf, tiles};
+ghost use Rattle.blocks.specs.Tiles.{paired, leftOf, tiles};
 ghost use Rattle.fractions.specs.Sums.{sumsOf, UpToFour};
 ghost use Rattle.frames.specs.Rows.{rowPixel};
 ghost use Rattle.row_check.specs.Pairing.{wholePairs, pairNear, Sound};
@@ -21,7 +21,6 @@ use rules::YuvChromaSubsampling;
 use rules::YuvEndianness;
 use rules::YuvNVOrder;
 use rules::YuvSourceChannels;
-use samples::storage;
 use yuv_support::channels::get_u_position;
 use yuv_support::channels::get_v_position;
 

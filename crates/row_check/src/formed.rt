@@ -4,7 +4,6 @@ ghost use mathlib.Core.Bool.{true, _&&_};
 ghost use Rattle.rule_laws.specs.Usable.{Reach};
 ghost use Rattle.sample_check.specs.Samples.{AllFormed};
 use rules::Settings;
-use samples::storage;
 
 fn both(a: bool, b: bool) -> bool
     ensures { λ r. ⌜ r ≡ (a && b) ⌝ }

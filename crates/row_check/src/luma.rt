@@ -14,7 +14,6 @@ use crate::near;
 use frames::channels;
 use rules::YuvEndianness;
 use rules::YuvSourceChannels;
-use samples::storage;
 
 // A sample for each pixel.
 fn run(

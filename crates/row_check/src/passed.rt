@@ -20,8 +20,6 @@ use rules::Settings;
 use sample_check::judge::Judge;
 use sample_check::sample;
 use sample_check::sample::Tile;
-use samples::blocks;
-use samples::storage;
 
 // The samples of a luma row.
 pub fn luma_passed(
@@ -44,7 +42,7 @@ pub fn luma_passed(
     let packing = s.packing;
     let ranges = j.ranges;
     let limit = j.luma;
-    let times = storage::times(packing, s.depth);
+    let times = storage::packing_factor(packing, s.depth);
     let h = gauge::shares_of(k, ranges.range_y, times);
     let g = gauge::gauge_of(ranges.bias_y, limit, times);
     luma::luma_run(channels, endianness, h, g, width, line, luma)
@@ -61,7 +59,7 @@ fn ruler_of(s: Settings, k: Named, j: Judge, two: bool) -> Ruler
     let packing = s.packing;
     let subsampling = s.subsampling;
     let ranges = j.ranges;
-    let times = storage::times(packing, s.depth);
+    let times = storage::packing_factor(packing, s.depth);
     let wide = blocks::paired(subsampling);
     let t = Tile { left: 0, wide, two };
     let shares = gauge::shares_of(k, ranges.range_uv, times);

@@ -13,7 +13,7 @@ use Rattle.rule_laws.specs.Usable.{Reach}
 use Rattle.rule_laws.proofs.Depths.{sane}
 use Rattle.tolerance_laws.specs.Chroma.{ownK}
 use Rattle.yuv_support.specs.declared.ranges.YuvChromaRange.{YuvChromaRange}
-use Rattle.samples.specs.Tiles.{tiles}
+use Rattle.blocks.specs.Tiles.{tiles}
 use Rattle.fractions.specs.Sums.{Modest}
 use Rattle.sample_check.specs.declared.judge.Limit.{Limit}
 use Rattle.sample_check.specs.declared.judge.Limits.{Limits}

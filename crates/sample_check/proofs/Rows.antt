@@ -12,8 +12,8 @@ use Rattle.rules.specs.declared.YuvNVOrder.{YuvNVOrder}
 use Rattle.rules.specs.declared.YuvNVOrder.the-variants.{UV, VU}
 use Rattle.rules.specs.Channels.{uAt, vAt, isU}
 use Rattle.rules.specs.Blocks.{chromaWidth}
-use Rattle.samples.specs.Tiles.{leftOf, wideAt, tiles}
-use Rattle.samples.proofs.Tiles.{left-below, wide-below}
+use Rattle.blocks.specs.Tiles.{leftOf, wideAt, tiles}
+use Rattle.blocks.proofs.Tiles.{left-below, wide-below}
 use Rattle.fractions.specs.declared.Sums.{Sums}
 use Rattle.fractions.specs.Sums.{sumsOf}
 use Rattle.frames.specs.Rows.{rowPixel}

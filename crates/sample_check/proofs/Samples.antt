@@ -12,7 +12,7 @@ use Rattle.rules.specs.Storage.{stored}
 use Rattle.rules.specs.Fractions.{Fraction, exactLuma, halves}
 use Rattle.rules.specs.Check.{right}
 use Rattle.tolerance_laws.specs.Chroma.{ownK, exactChroma}
-use Rattle.samples.specs.Tiles.{tiles}
+use Rattle.blocks.specs.Tiles.{tiles}
 use Rattle.fractions.specs.declared.Exact.{Exact}
 use Rattle.fractions.specs.declared.Sums.{Sums}
 use Rattle.fractions.specs.Exact.{fractionOf}

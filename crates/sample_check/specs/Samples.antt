@@ -17,7 +17,7 @@ use Rattle.rules.specs.Storage.{wellFormed, stored}
 use Rattle.rules.specs.Fractions.{exactLuma, halves}
 use Rattle.rules.specs.Check.{right}
 use Rattle.tolerance_laws.specs.Chroma.{exactChroma}
-use Rattle.samples.specs.Tiles.{leftOf, wideAt, tiles}
+use Rattle.blocks.specs.Tiles.{leftOf, wideAt, tiles}
 use Rattle.fractions.specs.declared.Exact.{Exact}
 use Rattle.fractions.specs.Bound.{distance}
 use Rattle.frames.specs.Rows.{rowPixel}

@@ -7,7 +7,7 @@ ghost use Rattle.rules.specs.Blocks.{chromaWidth};
 ghost use Rattle.rule_laws.specs.Usable.{Reach};
 ghost use Rattle.frames.specs.Rows.{rowPixel};
 ghost use Rattle.sample_check.specs.Judging.{Judging};
-ghost use Rattle.samples.specs.Tiles.{leftOf};
+ghost use Rattle.blocks.specs.Tiles.{leftOf};
 ghost use Rattle.sample_check.specs.Samples.{pixelRight, tileOf, elementRight};
 use crate::judge::Judge;
 use crate::sample;
@@ -16,7 +16,6 @@ use frames::channels;
 use rules::Named;
 use rules::Settings;
 use rules::YuvChromaSubsampling;
-use samples::blocks;
 use samples::word;
 
 // Whether element e of a luma row is right.

@@ -21,7 +21,6 @@ use rules::Named;
 use rules::Pixel;
 use rules::Settings;
 use rules::YuvSourceChannels;
-use samples::storage;
 
 // A chroma block of a row: its first column, and whether it has a second column and a second row.
 pub struct Tile {

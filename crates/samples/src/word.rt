@@ -11,7 +11,6 @@ ghost use Rattle.rule_laws.specs.Codes.{Low, Between};
 ghost use Rattle.rule_laws.specs.Usable.{Reach, Usable};
 ghost use Rattle.tolerance_laws.specs.Chroma.{chromaRow};
 use crate::code;
-use crate::storage;
 use rules::Pixel;
 use rules::Settings;
 use rules::Triple;

@@ -13,8 +13,8 @@ use Rattle.rules.specs.declared.Pixel.{Pixel}
 use Rattle.rules.specs.Channels.{Picture, isU, picture}
 use Rattle.rules.specs.Blocks.{chromaWidth}
 use Rattle.rules.specs.Check.{chromaRight, lumaTest, chromaTest}
-use Rattle.samples.specs.Tiles.{leftOf, wideAt, topOf, twoAt, secondOf, tiles}
-use Rattle.samples.proofs.Tiles.{block-tiles, left-below, wide-below, tiles-same}
+use Rattle.blocks.specs.Tiles.{leftOf, wideAt, topOf, twoAt, secondOf, tiles}
+use Rattle.blocks.proofs.Tiles.{block-tiles, left-below, wide-below, tiles-same}
 use Rattle.frames.specs.Rows.{Rows, rowPixel, Shows}
 use Rattle.frames.specs.SourceRows.{SourceRow}
 use Rattle.sample_check.specs.Samples.{pixelRight, blockRight, elementRight}

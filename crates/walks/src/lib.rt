@@ -16,7 +16,6 @@ use rules::Named;
 use rules::Settings;
 use sample_check::judge::Judge;
 use sample_check::row;
-use samples::blocks;
 
 // What a walk yields: nothing wrong, or the row and the element of the first wrong sample.
 pub enum Found {

@@ -1,7 +1,7 @@
 -- `column_pairs::halved_packed` meets its contract. Assumes nothing.
 use borrow.Author.Needs.{needs}
 use mathlib.Core.Path.{ap}
-use Rattle.samples.specs.Tiles.{paired}
+use Rattle.blocks.specs.Tiles.{paired}
 use Rattle.column_pairs.proofs.halved_packed.Statement.{statement}
 use Rattle.column_pairs.proofs.halved_packed.Tie as tie
 

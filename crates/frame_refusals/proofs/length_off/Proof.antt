@@ -9,7 +9,7 @@ use lib.Dec.{eqb}
 use borrow.Author.Tests.{eq-eqb, ne-eqb}
 use Rattle.rules.specs.Blocks.{chromaHeight}
 use Rattle.plane_laws.proofs.Tests.{or-yes, or-no}
-use Rattle.samples.proofs.Tiles.{height-small}
+use Rattle.blocks.proofs.Tiles.{height-small}
 use Rattle.frame_refusals.proofs.length_off.Statement.{statement}
 use Rattle.frame_refusals.proofs.length_off.Tie as tie
 

@@ -9,8 +9,8 @@ use Rattle.rules.specs.Ranges.{most}
 use Rattle.rule_laws.specs.Codes.{Low}
 use Rattle.tolerance_laws.proofs.Means.{averaged-low}
 use Rattle.plane_laws.proofs.Tables.{finished-at, finished-none, finished-two}
-use Rattle.samples.specs.Tiles.{leftOf}
-use Rattle.samples.proofs.Tiles.{width-small, tiles-block}
+use Rattle.blocks.specs.Tiles.{leftOf}
+use Rattle.blocks.proofs.Tiles.{width-small, tiles-block}
 use Rattle.frames.specs.Rows.{rowPixel}
 use Rattle.last_column.specs.Words.{chromaElement}
 use Rattle.last_column.specs.Columns.{elementsOver}

@@ -11,7 +11,7 @@ use lib.ListN.{length, getD}
 use Rattle.rules.specs.Channels.{count, picture}
 use Rattle.rules.specs.Blocks.{chromaWidth, chromaHeight}
 use Rattle.rules.specs.Check.{Clean, chromaTest}
-use Rattle.samples.proofs.Tiles.{height-small, top-below, two-below, second-below}
+use Rattle.blocks.proofs.Tiles.{height-small, top-below, two-below, second-below}
 use Rattle.frames.specs.Rows.{rowPixel}
 use Rattle.sample_check.specs.Samples.{elementRight}
 use Rattle.walks.proofs.Walked.{CleanRow, row-more, clean-none, clean-more, clean-all, first-wrong}

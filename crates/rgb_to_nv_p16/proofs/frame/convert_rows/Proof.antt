@@ -8,7 +8,7 @@ use Rattle.rules.specs.Blocks.{chromaWidth, chromaHeight}
 use Rattle.rules.specs.Planes.{written}
 use Rattle.rules.specs.Convert.{lumaWord, chromaWord}
 use Rattle.plane_laws.proofs.Planes.{plane-none, length-plane}
-use Rattle.samples.proofs.Tiles.{height-small}
+use Rattle.blocks.proofs.Tiles.{height-small}
 use Rattle.frames.specs.Tests.{Ready}
 use Rattle.rgb_to_nv_p16.specs.Turns.{rowsOver}
 use Rattle.rgb_to_nv_p16.proofs.Over.{over-none, over-all}

@@ -5,7 +5,7 @@ use Prim.Native.Nat.{_+_, _*_, _≤_, _<_}
 use native.Mathlib.Nat.{add-sub-cancel-left}
 use native.Mathlib.Omega.{arith}
 use lib.ListN.{length}
-use Rattle.samples.proofs.Tiles.{second-below}
+use Rattle.blocks.proofs.Tiles.{second-below}
 use Rattle.frames.proofs.Places.{part-of}
 use Rattle.rgb_to_nv_p16.proofs.Turns.{top-in, next-in, two-paired, chroma-in, second-shown, luma-one, chroma-one}
 use Rattle.rgb_to_nv_p16.proofs.frame.lend_row.Statement.{statement}

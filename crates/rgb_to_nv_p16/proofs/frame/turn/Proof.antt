@@ -3,7 +3,7 @@ use borrow.Author.Needs.{needs}
 use mathlib.Core.Path.{_≡_, subst⁻¹}
 use Prim.Native.Nat.{ℕ, _<_}
 use native.Mathlib.Omega.{arith}
-use Rattle.samples.proofs.Tiles.{height-small, top-below}
+use Rattle.blocks.proofs.Tiles.{height-small, top-below}
 use Rattle.rgb_to_nv_p16.specs.Turns.{Turn}
 use Rattle.rgb_to_nv_p16.proofs.Turns.{next-in, ready-as, grown-one, grown-two}
 use Rattle.rgb_to_nv_p16.proofs.frame.turn.Statement.{statement}

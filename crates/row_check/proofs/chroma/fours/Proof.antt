@@ -6,7 +6,7 @@ use mathlib.Core.Bool.{true}
 use mathlib.Core.List.{[], _∷_}
 use Prim.Native.Nat.{ℕ, _*_, _/_, _-_}
 use native.Mathlib.Omega.{arith}
-use Rattle.samples.specs.Tiles.{tiles}
+use Rattle.blocks.specs.Tiles.{tiles}
 use Rattle.fractions.specs.declared.Sums.{Sums}
 use Rattle.fractions.specs.Sums.{sumsOf}
 use Rattle.frames.specs.Rows.{rowPixel}

@@ -2,7 +2,7 @@
 use borrow.Author.Needs.{needs}
 use mathlib.Core.Path.{ap, _∙_}
 use mathlib.Core.Bool.{Bool, true, false}
-use Rattle.samples.specs.Tiles.{paired}
+use Rattle.blocks.specs.Tiles.{paired}
 use Rattle.sample_check.specs.Samples.{ownLimit}
 use Rattle.sample_check.proofs.Limits.{own-fits, chroma-modest}
 use Rattle.row_check.specs.Gauges.{sharesOf, gaugeOf}

@@ -5,7 +5,7 @@ use Prim.Native.Nat.{_*_, _≤_}
 use lib.ListN.{length, getD}
 use native.Mathlib.Omega.{arith}
 use Rattle.sample_check.specs.Samples.{Fitting}
-use Rattle.samples.proofs.Tiles.{left-below, width-small}
+use Rattle.blocks.proofs.Tiles.{left-below, width-small}
 use Rattle.sample_check.proofs.Rows.{tile-fits, element-is}
 use Rattle.sample_check.proofs.row.chroma_at.Statement.{statement}
 use Rattle.sample_check.proofs.row.chroma_at.Tie as tie

@@ -1,0 +1,2 @@
+pub mod PackingFactor
+pub mod Words
