@@ -1,6 +1,6 @@
 // Refusals 7 to 10: the size, the strides, the lengths, and a sample that is too large. None of the sums and products can wrap.
 ghost use mathlib.Core.Path.{_≡_};
-ghost use Rattle.rules.specs.Refusals.{outside, first};
+ghost use Rattle.rules.specs.Refusals.{first, lineOf, outside};
 ghost use Rattle.rules.specs.Frames.{sizeOff, strideOff, lengthOff, frameLines};
 ghost use Rattle.rule_laws.specs.Usable.{Reach};
 ghost use Rattle.frames.specs.Tests.{Sized, Strided, Clear};
@@ -21,7 +21,7 @@ fn outside(low: usize, high: usize, n: usize) -> bool
     high < n
 }
 
-// 7
+// Refusal 7.
 pub fn size_off(f: Frame) -> bool
     ensures { λ r. ⌜ r ≡ sizeOff f ⌝ }
 {
@@ -31,7 +31,7 @@ pub fn size_off(f: Frame) -> bool
     outside(1, 16384, f.height)
 }
 
-// 8
+// Refusal 8.
 pub fn stride_off(s: Settings, f: Frame) -> bool
     requires { ⌜ Sized f ⌝ }
     ensures { λ r. ⌜ r ≡ strideOff s f ⌝ }
@@ -52,7 +52,7 @@ pub fn stride_off(s: Settings, f: Frame) -> bool
     )
 }
 
-// 9
+// Refusal 9.
 pub fn length_off(s: Settings, f: Frame, source: usize, luma: usize, chroma: usize) -> bool
     requires { ⌜ (Sized f) × (Strided s f) ⌝ }
     ensures { λ r. ⌜ r ≡ lengthOff s f source luma chroma ⌝ }
@@ -67,10 +67,10 @@ pub fn length_off(s: Settings, f: Frame, source: usize, luma: usize, chroma: usi
     chroma != blocks::chroma_height(subsampling, f.height) * f.chroma_stride
 }
 
-// The first of 7 to 10 that applies to a frame and its buffers, or none.
-pub fn judge(s: Settings, f: Frame, source: &[u16], luma: usize, chroma: usize) -> Verdict
+// The first of refusals 7 to 10 that applies to a frame and its buffers, or none.
+pub fn frame_verdict(s: Settings, f: Frame, source: &[u16], luma: usize, chroma: usize) -> Verdict
     requires { ⌜ Reach s ⌝ }
-    ensures exact { λ r. ⌜ r ≡ first (frameLines s f (now (source .entry)) luma chroma) ⌝ }
+    ensures exact { λ r. ⌜ lineOf r ≡ first (frameLines s f (now (source .entry)) luma chroma) ⌝ }
     ensures clear { λ r. ⌜ Clear s f (now (source .entry)) luma chroma r ⌝ }
 {
     if size_off(f) {

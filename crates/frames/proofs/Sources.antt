@@ -2,19 +2,21 @@
 use mathlib.Core.Path.{_≡_, refl, sym, ap, _∙_}
 use mathlib.Core.Bool.{Bool, true, false}
 use mathlib.Core.List.{List, [], _∷_}
-use Prim.Native.Nat.{ℕ, _+_, _/_, _<_}
+use Prim.Native.Nat.{ℕ, _+_, _*_, _/_, _%_, _<_}
+use native.Mathlib.Omega.{arith}
+use lib.Dec.{leb}
 use Rattle.rules.specs.declared.Settings.{Settings}
 use Rattle.rules.specs.declared.Frame.{Frame}
 use Rattle.rules.specs.declared.Pixel.{Pixel}
 use Rattle.rules.specs.declared.YuvSourceChannels.{YuvSourceChannels}
 use Rattle.rules.specs.declared.YuvChromaSubsampling.{YuvChromaSubsampling}
-use Rattle.rules.specs.declared.Refusal.the-variants.{Size, Stride, Length, TooLarge}
 use Rattle.rules.specs.Ranges.{most}
 use Rattle.rules.specs.Channels.{Picture, picture}
 use Rattle.rules.specs.Blocks.{block, chromaWidth, chromaHeight}
 use Rattle.rules.specs.Refusals.{line}
-use Rattle.rules.specs.Frames.{sizeOff, strideOff, lengthOff, highAt, tooLargeAt, isFound, frameLines}
-use Rattle.plane_laws.proofs.Firsts.{first-ext}
+use Rattle.rules.specs.Search.{isFound}
+use Rattle.rules.specs.Frames.{channelOf, lowTest, tooLarge, sizeLine, strideLine, lengthLine, frameLines}
+use Rattle.plane_laws.proofs.Searches.{same-search}
 use Rattle.blocks.specs.Tiles.{leftOf, wideAt, topOf, twoAt, tiles}
 use Rattle.blocks.proofs.Tiles.{block-tiles, left-below, wide-below, top-below, two-below, tiles-same}
 use Rattle.frames.specs.Sources.{SameColours, SamePicture}
@@ -24,9 +26,11 @@ pictures c f a b h =
     record { same = λ row x p q. λ i. record { red = h .red row x p q i; green = h .green row x p q i; blue = h .blue row x p q i } }
 
 module _ (f : Frame) (px px′ : Picture) (h : SamePicture (f .width) (f .height) px px′) where
-  pub same-scan : (m : ℕ) → tooLargeAt m f px ≡ tooLargeAt m f px′
-  unfolding tooLargeAt
-  same-scan m = first-ext (f .height) _ _ (λ row b. first-ext (f .width) _ _ (λ x l. ap (highAt m row x) (h .same row x b l)))
+  pub same-scan : (m : ℕ) → tooLarge m f px ≡ tooLarge m f px′
+  unfolding tooLarge
+  same-scan m =
+      same-search (lowTest m px) (lowTest m px′) (3 * f .width) (f .height)
+      (λ row i b l. ap (λ (p : Pixel). leb (channelOf (i % 3) p) m) (h .same row (i / 3) b (omega arith)))
 
   pub same-block : (sub : YuvChromaSubsampling) (row e : ℕ) → row < chromaHeight sub (f .height) → e < chromaWidth sub (f .width)
       → block sub (f .width) (f .height) px row (e / 2) ≡ block sub (f .width) (f .height) px′ row (e / 2)
@@ -47,8 +51,8 @@ module _ (f : Frame) (px px′ : Picture) (h : SamePicture (f .width) (f .height
 -- the table's lines for a frame
 pub same-lines : (s : Settings) (f : Frame) (a b : List ℕ) (luma chroma : ℕ) → SameColours (s .channels) f a b → frameLines s f a luma chroma ≡ frameLines s f b luma chroma
 same-lines s f a b luma chroma h =
-    λ i. line Size (sizeOff f) ∷
-    line Stride (strideOff s f) ∷
-    line Length (lengthOff s f (h .long i) luma chroma) ∷
-    line TooLarge (isFound (same-scan f _ _ (pictures (s .channels) f a b h) (most (s .depth)) i)) ∷
+    λ i. sizeLine f ∷
+    strideLine s f ∷
+    lengthLine s f (h .long i) luma chroma ∷
+    line 10 (isFound (same-scan f _ _ (pictures (s .channels) f a b h) (most (s .depth)) i)) ∷
     []

@@ -1,29 +1,25 @@
 -- What the tests of a frame leave. Assumes nothing.
-use mathlib.Core.Path.{_≡_, refl, ap}
+use mathlib.Core.Path.{_≡_, sym, ap, _∙_}
 use mathlib.Core.List.{List}
-use mathlib.Core.Bool.{Bool, true, false, not, _||_, cond, true≢false}
-use Prim.Native.Nat.{ℕ, _*_, _≤_, _<_}
+use mathlib.Core.Bool.{false, not, _||_}
+use Prim.Native.Nat.{ℕ, _+_, _*_, _/_, _%_, _≤_, _<_}
 use native.Mathlib.Nat.{mul-le-mul}
 use native.Mathlib.Omega.{arith}
-use lib.Dec.{eqb, ltb}
+use lib.Dec.{eqb, leb, lit<}
 use lib.ListN.{length}
-use borrow.Author.Tests.{eqb-true, ltb-false, not-false}
+use borrow.Author.Tests.{eqb-true, leb-true, not-false}
 use Rattle.rules.specs.declared.Settings.{Settings}
 use Rattle.rules.specs.declared.Frame.{Frame}
-use Rattle.rules.specs.declared.Pixel.{Pixel}
-use Rattle.rules.specs.declared.Search.{Search}
-use Rattle.rules.specs.declared.Search.the-variants.{Nothing}
 use Rattle.rules.specs.Ranges.{most}
-use Rattle.rules.specs.Channels.{Picture, count, picture}
+use Rattle.rules.specs.Channels.{Picture, count}
 use Rattle.rules.specs.Blocks.{chromaWidth, chromaHeight}
-use Rattle.rules.specs.declared.Verdict.the-variants.{Passes}
-use Rattle.rules.specs.Refusals.{outside, first}
-use Rattle.rules.specs.Frames.{sizeOff, strideOff, lengthOff, place, firstBelow, highAt, tooLargeAt, isFound, frameLines}
-use Rattle.rule_laws.specs.Codes.{Low}
-use Rattle.rule_laws.proofs.Refusals.{bounds, passed}
+use Rattle.rules.specs.Refusals.{passes, outside, first}
+use Rattle.rules.specs.Search.{firstFailing, isFound}
+use Rattle.rules.specs.Frames.{sizeOff, strideOff, lengthOff, shown, channelOf, colourSample, lowTest, tooLarge, frameLines}
+use Rattle.rule_laws.proofs.Refusals.{bounds, passed-by}
 use Rattle.plane_laws.proofs.Tests.{neither}
 use Rattle.plane_laws.proofs.Tables.{step-le}
-use Rattle.plane_laws.proofs.Firsts.{not-found, none-at}
+use Rattle.plane_laws.proofs.Searches.{not-found, none-clean}
 use Rattle.blocks.proofs.Tiles.{width-some}
 use Rattle.frames.specs.Rows.{Rows, LowPicture}
 use Rattle.frames.specs.Tests.{Sized, Strided, Laid, Ready}
@@ -71,32 +67,35 @@ laid s f source luma chroma a b h =
 
 -- ---- no visible sample is too large
 
-low-pixel : (m row x : ℕ) (p : Pixel) → highAt m row x p ≡ Nothing → Low m p
-low-pixel m row x p h = go (ltb m (p .red)) (ltb m (p .green)) (ltb m (p .blue)) (ltb-false m (p .red)) (ltb-false m (p .green)) (ltb-false m (p .blue)) h
-  where
-    go : (r g b : Bool) → (r ≡ false → p .red ≤ m) → (g ≡ false → p .green ≤ m) → (b ≡ false → p .blue ≤ m)
-        → cond r (place row x 0) (cond g (place row x 1) (cond b (place row x 2) Nothing)) ≡ Nothing → Low m p
-    go true g b hr hg hb e = absurd (true≢false (ap isFound e))
-    go false true b hr hg hb e = absurd (true≢false (ap isFound e))
-    go false false true hr hg hb e = absurd (true≢false (ap isFound e))
-    go false false false hr hg hb e = record { red = hr refl; green = hg refl; blue = hb refl }
+-- the three colour samples of pixel x have the numbers 3·x, 3·x + 1 and 3·x + 2
+pub sample-of : (px : Picture) (row x c : ℕ) → c < 3 → colourSample px row (3 * x + c) ≡ channelOf c (px row x)
+sample-of px row x c h =
+    let rest : (3 * x + c) % 3 ≡ c = omega arith in
+    let whole : (3 * x + c) / 3 ≡ x = omega arith in
+    λ i. channelOf (rest i) (px row (whole i))
 
-pub low-picture : (m : ℕ) (f : Frame) (px : Picture) → isFound (tooLargeAt m f px) ≡ false → LowPicture m px (f .width) (f .height)
-unfolding tooLargeAt
+pub low-picture : (m : ℕ) (f : Frame) (px : Picture) → isFound (tooLarge m f px) ≡ false → LowPicture m px (f .width) (f .height)
+unfolding tooLarge
 low-picture m f px h =
-    let row-search : ℕ → Search = λ row. firstBelow (f .width) (λ x. highAt m row x (px row x)) in
-    let none = none-at row-search (f .height) (not-found (firstBelow (f .height) row-search) h) in
-    record { low = λ row b. record { low = λ x l. low-pixel m row x (px row x) (none-at (λ x. highAt m row x (px row x)) (f .width) (none row b) x l) } }
+    let clean = none-clean (lowTest m px) (3 * f .width) (f .height) (not-found (firstFailing (lowTest m px) (3 * f .width) (f .height)) h) in
+    let low : (row x c : ℕ) → row < f .height → x < f .width → c < 3 → channelOf c (px row x) ≤ m = λ row x c b l k.
+        leb-true (channelOf c (px row x)) m
+        (sym (ap (λ (v : ℕ). leb v m) (sample-of px row x c k)) ∙ clean .clean row (3 * x + c) b (omega arith)) in
+    record {
+      low = λ row b. record {
+        low = λ x l. record { red = low row x 0 b l (lit< tt); green = low row x 1 b l (lit< tt); blue = low row x 2 b l (lit< tt) };
+      };
+    }
 
 -- ---- a frame that no refusal meets can be converted
-pub ready : (s : Settings) (f : Frame) (source : List ℕ) (luma chroma : ℕ) → first (frameLines s f source luma chroma) ≡ Passes → Ready s f source luma chroma
+pub ready : (s : Settings) (f : Frame) (source : List ℕ) (luma chroma : ℕ) → first (frameLines s f source luma chroma) ≡ passes → Ready s f source luma chroma
 ready s f source luma chroma h =
-    let size = passed _ _ h in
-    let stride = passed _ _ (size .1) in
-    let long = passed _ _ (stride .1) in
+    let size = passed-by _ _ _ h in
+    let stride = passed-by _ _ _ (size .1) in
+    let long = passed-by _ _ _ (stride .1) in
     let z = sized f (size .0) in
     record {
       sized = z;
       laid = laid s f (length source) luma chroma z (strided s f (stride .0)) (long .0);
-      low = low-picture (most (s .depth)) f (picture (s .channels) (f .«source_stride») source) (passed _ _ (long .1) .0);
+      low = low-picture (most (s .depth)) f (shown s f source) (passed-by _ _ _ (long .1) .0);
     }

@@ -12,6 +12,7 @@ use Rattle.rules.specs.Blocks.{averaged, chromaWidth}
 use Rattle.rules.specs.Convert.{wordOf, chromaWord}
 use Rattle.tolerance_laws.specs.Chroma.{chromaRow}
 use Rattle.tolerance_laws.proofs.Means.{averaged-one}
+use Rattle.tolerance_laws.proofs.Samples.{chroma-word-is}
 use Rattle.blocks.specs.Tiles.{leftOf, wideAt, topOf, twoAt, tiles}
 use Rattle.blocks.proofs.Tiles.{block-tiles, left-below, wide-below, tiles-same}
 use Rattle.last_column.specs.Words.{pairMean, chromaElement}
@@ -20,9 +21,10 @@ use Rattle.last_column.specs.Words.{pairMean, chromaElement}
 pub element-is : (s : Settings) (w : Weights) (width height : ℕ) (px : Picture) (row k : ℕ)
     → let top = topOf (s .subsampling) row in
     chromaWord s w width height px row k ≡ chromaElement s w width (twoAt (s .subsampling) height top) (px top) (px (top + 1)) k
-unfolding chromaWord chromaElement
+unfolding chromaElement
 element-is s w width height px row k =
-    ap (λ (b : List Pixel). wordOf s (biasUV (s .depth)) (chromaRow (isU (s .order) k) w) (averaged b)) (block-tiles (s .subsampling) width height px row (k / 2))
+    chroma-word-is s w (isU (s .order) k) _
+    ∙ ap (λ (b : List Pixel). wordOf s (biasUV (s .depth)) (chromaRow (isU (s .order) k) w) (averaged b)) (block-tiles (s .subsampling) width height px row (k / 2))
 
 -- ---- a block of one column, as the code makes its mean
 

@@ -1,4 +1,4 @@
 pub mod Tests
 pub mod Tables
 pub mod Planes
-pub mod Firsts
+pub mod Searches

@@ -1,7 +1,7 @@
 -- THE THEOREMS of convert: one outcome for each input, and neither alpha nor the source's padding has a say. Assumes nothing.
 use mathlib.Core.Path.{_≡_, sym, ap, _∙_}
 use mathlib.Core.Bool.{cond}
-use mathlib.Core.List.{List, _++_}
+use mathlib.Core.List.{List, [], _∷_, _++_}
 use Prim.Native.Nat.{ℕ}
 use lib.ListN.{length}
 use Rattle.rules.specs.declared.Settings.{Settings}
@@ -9,13 +9,15 @@ use Rattle.rules.specs.declared.Weights.{Weights}
 use Rattle.rules.specs.declared.Frame.{Frame}
 use Rattle.rules.specs.declared.Converted.{Converted}
 use Rattle.rules.specs.declared.Pixel.{Pixel}
-use Rattle.rules.specs.Ranges.{biasY, biasUV}
-use Rattle.rules.specs.Weights.{weightsOf, lumaRow, cbRow, crRow}
+use Rattle.rules.specs.declared.Component.the-variants.{Y, Cb, Cr}
+use Rattle.rules.specs.Weights.{weightsOf}
 use Rattle.rules.specs.Channels.{Picture, isU}
-use Rattle.rules.specs.Blocks.{averaged, chromaWidth, chromaHeight}
+use Rattle.rules.specs.Blocks.{chromaWidth, chromaHeight}
 use Rattle.rules.specs.Refusals.{Line, first}
+use Rattle.rules.specs.Answers.{given, answer}
 use Rattle.rules.specs.Settle.{settleLines}
-use Rattle.rules.specs.Convert.{wordOf, lumaWord, chromaWord, answer, kept, verdict, lumaWritten, chromaWritten, convert, lumaAfter, chromaAfter}
+use Rattle.rules.specs.Convert.{sampleWord, lumaWord, chromaWord, kept, verdict, lumaWritten, chromaWritten, convert, lumaAfter, chromaAfter}
+use Rattle.rule_laws.proofs.Answers.{one-converted}
 use Rattle.plane_laws.proofs.Planes.{written-ext}
 use Rattle.frames.specs.Sources.{SameColours, SamePicture}
 use Rattle.frames.proofs.Sources.{pictures, same-block, same-lines}
@@ -25,20 +27,19 @@ use Rattle.rgb_to_nv_p16.specs.Outcomes.{Admitted}
 pub one-outcome : (s : Settings) (f : Frame) (source luma chroma : List ℕ) (a a′ : Converted) (l l′ c c′ : List ℕ)
     → Admitted s f source luma chroma a l c → Admitted s f source luma chroma a′ l′ c′ → (a ≡ a′) × (l ≡ l′) × (c ≡ c′)
 one-outcome s f source luma chroma a a′ l l′ c c′ p q =
-    (p .answer-is ∙ sym (q .answer-is), p .luma-is ∙ sym (q .luma-is), p .chroma-is ∙ sym (q .chroma-is))
+    (one-converted a a′ (p .answer-is ∙ sym (q .answer-is)), p .luma-is ∙ sym (q .luma-is), p .chroma-is ∙ sym (q .chroma-is))
 
 -- ---- pictures that agree on the visible pixels
 module _ (f : Frame) (px px′ : Picture) (h : SamePicture (f .width) (f .height) px px′) where
   pub same-luma : (s : Settings) (w : Weights) (luma : List ℕ) → lumaWritten s w f px luma ≡ lumaWritten s w f px′ luma
   same-luma s w luma =
       written-ext (f .«luma_stride») (f .width) (f .height) (lumaWord s w px) (lumaWord s w px′) luma
-      (λ row x b l. ap (wordOf s (biasY (s .range) (s .depth)) (lumaRow w)) (h .same row x b l))
+      (λ row x b l. ap (λ (p : Pixel). sampleWord s w (record { component = Y; pixels = p ∷ [] })) (h .same row x b l))
 
   pub same-chroma : (s : Settings) (w : Weights) (chroma : List ℕ) → chromaWritten s w f px chroma ≡ chromaWritten s w f px′ chroma
-  unfolding chromaWord
   same-chroma s w chroma =
       written-ext (f .«chroma_stride») (chromaWidth (s .subsampling) (f .width)) (chromaHeight (s .subsampling) (f .height)) (chromaWord s w (f .width) (f .height) px) (chromaWord s w (f .width) (f .height) px′) chroma
-      (λ row e b l. ap (λ (p : List Pixel). wordOf s (biasUV (s .depth)) (cond (isU (s .order) e) (cbRow w) (crRow w)) (averaged p)) (same-block f px px′ h (s .subsampling) row e b l))
+      (λ row e b l. ap (λ (p : List Pixel). sampleWord s w (record { component = cond (isU (s .order) e) Cb Cr; pixels = p })) (same-block f px px′ h (s .subsampling) row e b l))
 
 -- ---- two sources of one length that agree at every visible colour sample give the same answer and the same planes
 module _ (s : Settings) (f : Frame) (a b luma chroma : List ℕ) (h : SameColours (s .channels) f a b) where
@@ -49,7 +50,7 @@ module _ (s : Settings) (f : Frame) (a b luma chroma : List ℕ) (h : SameColour
   unfolding convert lumaAfter chromaAfter
   alpha-and-padding =
       let p = pictures (s .channels) f a b h in (
-        ap answer same-verdict,
+        ap (λ (l : Line). answer l (given [])) same-verdict,
         λ i. kept (same-verdict i) (same-luma f _ _ p s (weightsOf s) luma i) luma,
         λ i. kept (same-verdict i) (same-chroma f _ _ p s (weightsOf s) chroma i) chroma,
       )

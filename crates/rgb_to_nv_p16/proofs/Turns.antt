@@ -18,6 +18,7 @@ use Rattle.rules.specs.Channels.{Picture}
 use Rattle.rules.specs.Blocks.{chromaWidth, chromaHeight}
 use Rattle.rules.specs.Planes.{tabulate, written}
 use Rattle.rules.specs.Convert.{wordOf, lumaWord, chromaWord}
+use Rattle.tolerance_laws.proofs.Samples.{luma-word-is}
 use Rattle.plane_laws.proofs.Tables.{tabulate-ext}
 use Rattle.plane_laws.proofs.Planes.{put, length-plane, plane-row}
 use Rattle.blocks.specs.Tiles.{paired, topOf, twoAt, secondOf}
@@ -106,9 +107,9 @@ module _ (s : Settings) (w : Weights) (f : Frame) (px : Picture) where
       → new ≡ tabulate (f .width) (lumaElement s w (rowPixel (s .channels) part))
       → Grows (f .«luma_stride») (f .width) row (row + 1) (lumaWord s w px) now (put now (row * f .«luma_stride») new k)
   unfolding word-of
-  luma-one row k part now new r h shown q e =
+  luma-one row k part now new r h shows q e =
       row-put (f .«luma_stride») (f .width) (f .height) row k (lumaWord s w px) now new r h q
-      (e ∙ tabulate-ext (f .width) _ _ (λ x b. ap word-of (shown .same x b)))
+      (e ∙ tabulate-ext (f .width) _ _ (λ x b. ap word-of (shows .same x b) ∙ sym (luma-word-is s w (px row x))))
 
   -- one chroma row
   pub chroma-one : (row top k : ℕ) (two : Bool) (upper lower now new : List ℕ) → Rows (length now) (f .«chroma_stride») (chromaWidth (s .subsampling) (f .width)) (chromaHeight (s .subsampling) (f .height))

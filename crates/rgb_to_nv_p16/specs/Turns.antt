@@ -7,9 +7,10 @@ use Rattle.rules.specs.declared.Settings.{Settings}
 use Rattle.rules.specs.declared.Weights.{Weights}
 use Rattle.rules.specs.declared.Frame.{Frame}
 use Rattle.rules.specs.declared.YuvChromaSubsampling.{YuvChromaSubsampling}
-use Rattle.rules.specs.Channels.{Picture, picture}
+use Rattle.rules.specs.Channels.{Picture}
 use Rattle.rules.specs.Blocks.{chromaWidth, chromaHeight}
 use Rattle.rules.specs.Planes.{written}
+use Rattle.rules.specs.Frames.{shown}
 use Rattle.rules.specs.Convert.{lumaWord, chromaWord}
 use Rattle.blocks.specs.Tiles.{topOf, twoAt}
 
@@ -30,8 +31,8 @@ pub record Grows (stride wide from to : ℕ) (f : ℕ → ℕ → ℕ) (before a
 -- the same of the luma plane and of the chroma plane, by the picture that a source shows
 abbrev pub LumaGrows : Settings → Weights → Frame → List ℕ → ℕ → ℕ → List ℕ → List ℕ → Type 0
 LumaGrows s w f source from to before after =
-    Grows (f .«luma_stride») (f .width) from to (lumaWord s w (picture (s .channels) (f .«source_stride») source)) before after
+    Grows (f .«luma_stride») (f .width) from to (lumaWord s w (shown s f source)) before after
 
 abbrev pub ChromaGrows : Settings → Weights → Frame → List ℕ → ℕ → ℕ → List ℕ → List ℕ → Type 0
 ChromaGrows s w f source from to before after =
-    Grows (f .«chroma_stride») (chromaWidth (s .subsampling) (f .width)) from to (chromaWord s w (f .width) (f .height) (picture (s .channels) (f .«source_stride») source)) before after
+    Grows (f .«chroma_stride») (chromaWidth (s .subsampling) (f .width)) from to (chromaWord s w (f .width) (f .height) (shown s f source)) before after

@@ -2,8 +2,9 @@
 ghost use mathlib.Core.Path.{_≡_};
 ghost use Prim.Native.Nat.{_+_, _<_};
 ghost use lib.ListN.{length};
-ghost use Rattle.rules.specs.Channels.{picture};
 ghost use Rattle.rules.specs.Blocks.{chromaHeight};
+ghost use Rattle.rules.specs.Refusals.{lineOf};
+ghost use Rattle.rules.specs.Frames.{shown};
 ghost use Rattle.rules.specs.Convert.{kept, lumaWritten, chromaWritten};
 ghost use Rattle.rule_laws.specs.Usable.{Usable};
 ghost use Rattle.frames.specs.Tests.{Ready, Clear};
@@ -112,8 +113,8 @@ fn convert_rows(
 )
     requires { ⌜ Usable s w ⌝ }
     requires { ⌜ Ready s f (now source) (length (now luma)) (length (now chroma)) ⌝ }
-    ensures { λ _. ⌜ now (luma .exit) ≡ lumaWritten s w f (picture (s .channels) (f .«source_stride») (now (source .entry))) (now (luma .entry)) ⌝ }
-    ensures { λ _. ⌜ now (chroma .exit) ≡ chromaWritten s w f (picture (s .channels) (f .«source_stride») (now (source .entry))) (now (chroma .entry)) ⌝ }
+    ensures { λ _. ⌜ now (luma .exit) ≡ lumaWritten s w f (shown s f (now (source .entry))) (now (luma .entry)) ⌝ }
+    ensures { λ _. ⌜ now (chroma .exit) ≡ chromaWritten s w f (shown s f (now (source .entry))) (now (chroma .entry)) ⌝ }
 {
     let subsampling = s.subsampling;
     let rows = blocks::chroma_height(subsampling, f.height);
@@ -136,8 +137,8 @@ pub fn write_planes(
 )
     requires { ⌜ Usable s w ⌝ }
     requires { ⌜ Clear s f (now source) (length (now luma)) (length (now chroma)) verdict ⌝ }
-    ensures { λ _. ⌜ now (luma .exit) ≡ kept verdict (lumaWritten s w f (picture (s .channels) (f .«source_stride») (now (source .entry))) (now (luma .entry))) (now (luma .entry)) ⌝ }
-    ensures { λ _. ⌜ now (chroma .exit) ≡ kept verdict (chromaWritten s w f (picture (s .channels) (f .«source_stride») (now (source .entry))) (now (chroma .entry))) (now (chroma .entry)) ⌝ }
+    ensures { λ _. ⌜ now (luma .exit) ≡ kept (lineOf verdict) (lumaWritten s w f (shown s f (now (source .entry))) (now (luma .entry))) (now (luma .entry)) ⌝ }
+    ensures { λ _. ⌜ now (chroma .exit) ≡ kept (lineOf verdict) (chromaWritten s w f (shown s f (now (source .entry))) (now (chroma .entry))) (now (chroma .entry)) ⌝ }
 {
     match verdict {
         Verdict::Passes => convert_rows(s, w, f, source, luma, chroma),

@@ -1,10 +1,10 @@
 // A frame of RGB samples converted to a luma plane and a chroma plane, or refused with both planes as they were.
 ghost use mathlib.Core.Path.{_≡_};
-ghost use lib.ListN.{length};
-ghost use Rattle.rules.specs.Channels.{picture};
-ghost use Rattle.rules.specs.Refusals.{first};
-ghost use Rattle.rules.specs.Frames.{frameLines};
-ghost use Rattle.rules.specs.Convert.{answer, kept, lumaWritten, chromaWritten, convert, lumaAfter, chromaAfter};
+ghost use mathlib.Core.List.{[]};
+ghost use Rattle.rules.specs.Refusals.{lineOf};
+ghost use Rattle.rules.specs.Answers.{given, answer, convertedAnswer};
+ghost use Rattle.rules.specs.Frames.{shown, frameLine};
+ghost use Rattle.rules.specs.Convert.{kept, lumaWritten, chromaWritten, convert, lumaAfter, chromaAfter};
 ghost use Rattle.rule_laws.specs.Usable.{Usable};
 
 mod frame;
@@ -19,7 +19,7 @@ use rules::Weights;
 use settle::settle;
 
 fn answer_of(verdict: Verdict) -> Converted
-    ensures { λ r. ⌜ r ≡ answer verdict ⌝ }
+    ensures { λ r. ⌜ convertedAnswer r ≡ answer (lineOf verdict) (given []) ⌝ }
 {
     match verdict {
         Verdict::Passes => Converted::Done,
@@ -37,11 +37,11 @@ fn convert_settled(
     chroma: &mut [u16],
 ) -> Converted
     requires { ⌜ Usable s w ⌝ }
-    ensures { λ r. ⌜ r ≡ answer (first (frameLines s f (now (source .entry)) (length (now (luma .entry))) (length (now (chroma .entry))))) ⌝ }
-    ensures { λ r. ⌜ now (luma .exit) ≡ kept (first (frameLines s f (now (source .entry)) (length (now (luma .entry))) (length (now (chroma .entry))))) (lumaWritten s w f (picture (s .channels) (f .«source_stride») (now (source .entry))) (now (luma .entry))) (now (luma .entry)) ⌝ }
-    ensures { λ r. ⌜ now (chroma .exit) ≡ kept (first (frameLines s f (now (source .entry)) (length (now (luma .entry))) (length (now (chroma .entry))))) (chromaWritten s w f (picture (s .channels) (f .«source_stride») (now (source .entry))) (now (chroma .entry))) (now (chroma .entry)) ⌝ }
+    ensures { λ r. ⌜ convertedAnswer r ≡ answer (frameLine s f (now (source .entry)) (now (luma .entry)) (now (chroma .entry))) (given []) ⌝ }
+    ensures { λ r. ⌜ now (luma .exit) ≡ kept (frameLine s f (now (source .entry)) (now (luma .entry)) (now (chroma .entry))) (lumaWritten s w f (shown s f (now (source .entry))) (now (luma .entry))) (now (luma .entry)) ⌝ }
+    ensures { λ r. ⌜ now (chroma .exit) ≡ kept (frameLine s f (now (source .entry)) (now (luma .entry)) (now (chroma .entry))) (chromaWritten s w f (shown s f (now (source .entry))) (now (chroma .entry))) (now (chroma .entry)) ⌝ }
 {
-    let verdict = frame_refusals::judge(s, f, source, luma.len(), chroma.len());
+    let verdict = frame_refusals::frame_verdict(s, f, source, luma.len(), chroma.len());
     frame::write_planes(verdict, s, w, f, source, luma, chroma);
     answer_of(verdict)
 }
@@ -54,7 +54,7 @@ pub fn convert(
     luma: &mut [u16],
     chroma: &mut [u16],
 ) -> Converted
-    ensures answer { λ r. ⌜ r ≡ convert s f (now (source .entry)) (now (luma .entry)) (now (chroma .entry)) ⌝ }
+    ensures answer { λ r. ⌜ convertedAnswer r ≡ convert s f (now (source .entry)) (now (luma .entry)) (now (chroma .entry)) ⌝ }
     ensures luma { λ r. ⌜ now (luma .exit) ≡ lumaAfter s f (now (source .entry)) (now (luma .entry)) (now (chroma .entry)) ⌝ }
     ensures chroma { λ r. ⌜ now (chroma .exit) ≡ chromaAfter s f (now (source .entry)) (now (luma .entry)) (now (chroma .entry)) ⌝ }
 {

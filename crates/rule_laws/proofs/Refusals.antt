@@ -5,77 +5,100 @@ use mathlib.Core.List.{List, [], _∷_, _++_}
 use Prim.Native.Nat.{ℕ, _≤_, _<_}
 use native.Mathlib.Omega.{arith}
 use lib.Dec.{leb, ltb, eqb}
+use lib.IntN.{ℤ}
 use borrow.Author.Tests.{le-leb, lt-leb, le-ltb, lt-ltb, leb-true, leb-false, eq-eqb}
-use Rattle.rules.specs.declared.Refusal.{Refusal}
 use Rattle.rules.specs.declared.Verdict.{Verdict}
 use Rattle.rules.specs.declared.Verdict.the-variants.{Passes, Refuses}
-use Rattle.rules.specs.Refusals.{numberOf, outside, Line, pick, first}
+use Rattle.rules.specs.Refusals.{Line, passes, refuses, line, earlier, first, lineOf, outside}
 
 -- ---- a table's lines
-pub end : first [] ≡ Passes
+pub end : first [] ≡ passes
 unfolding first
 end = refl
 
 module _ (l : Line) (ls : List Line) where
-  pub stop : l .applies ≡ true → first (l ∷ ls) ≡ Refuses (l .refusal)
+  pub stop : {n : ℕ} {v : List ℤ} → l ≡ refuses n v → first (l ∷ ls) ≡ refuses n v
   unfolding first
-  stop h = ap (λ (b : Bool). pick (l .refusal) b (first ls)) h
+  stop h = ap (λ (k : Line). earlier k (first ls)) h
 
-  pub skip : l .applies ≡ false → first (l ∷ ls) ≡ first ls
+  pub skip : l ≡ passes → first (l ∷ ls) ≡ first ls
   unfolding first
-  skip h = ap (λ (b : Bool). pick (l .refusal) b (first ls)) h
+  skip h = ap (λ (k : Line). earlier k (first ls)) h
 
-  pub passed : first (l ∷ ls) ≡ Passes → (l .applies ≡ false) × (first ls ≡ Passes)
+  pub passed : first (l ∷ ls) ≡ passes → (l ≡ passes) × (first ls ≡ passes)
   unfolding first
-  passed h = go (l .applies) h
+  passed h = go l h
     where
-      go : (b : Bool) → pick (l .refusal) b (first ls) ≡ Passes → (b ≡ false) × (first ls ≡ Passes)
-      go true e = absurd (let z : _≡_ {A = ℕ} 0 1 = cc in omega arith)
-      go false e = (refl, e)
+      go : (k : Line) → earlier k (first ls) ≡ passes → (k ≡ passes) × (first ls ≡ passes)
+      go passes e = (refl, e)
+      go (refuses n v) e = absurd (let z : _≡_ {A = ℕ} 0 1 = cc in omega arith)
+
+-- ---- the line of a test that refuses by its number alone
+
+pub applies : (n : ℕ) {b : Bool} → b ≡ true → line n b ≡ refuses n []
+applies n h = ap (line n) h
+
+pub unapplied : (n : ℕ) {b : Bool} → b ≡ false → line n b ≡ passes
+unapplied n h = ap (line n) h
+
+pub not-applied : (n : ℕ) (b : Bool) → line n b ≡ passes → b ≡ false
+not-applied n true h = absurd (let z : _≡_ {A = ℕ} 0 1 = cc in omega arith)
+not-applied n false h = refl
+
+module _ (k : ℕ) (b : Bool) (ls : List Line) where
+  pub stopped : b ≡ true → first (line k b ∷ ls) ≡ refuses k []
+  stopped h = stop (line k b) ls (applies k h)
+
+  pub skipped : b ≡ false → first (line k b ∷ ls) ≡ first ls
+  skipped h = skip (line k b) ls (unapplied k h)
+
+  pub passed-by : first (line k b ∷ ls) ≡ passes → (b ≡ false) × (first ls ≡ passes)
+  passed-by h = let p = passed (line k b) ls h in (not-applied k b (p .0), p .1)
 
   -- a refusal of another number comes from the lines after this one
-  pub reached : (r : Refusal) → eqb (numberOf (l .refusal)) (numberOf r) ≡ false → first (l ∷ ls) ≡ Refuses r → (l .applies ≡ false) × (first ls ≡ Refuses r)
+  pub reached : (n : ℕ) (v : List ℤ) → eqb k n ≡ false → first (line k b ∷ ls) ≡ refuses n v → (b ≡ false) × (first ls ≡ refuses n v)
   unfolding first
-  reached r n h = go (l .applies) h
+  reached n v other h = go b h
     where
-      go : (b : Bool) → pick (l .refusal) b (first ls) ≡ Refuses r → (b ≡ false) × (first ls ≡ Refuses r)
-      go true e = let q : l .refusal ≡ r = cc in absurd (true≢false (sym (eq-eqb (numberOf (l .refusal)) (numberOf r) (ap numberOf q)) ∙ n))
+      go : (t : Bool) → earlier (line k t) (first ls) ≡ refuses n v → (t ≡ false) × (first ls ≡ refuses n v)
+      go true e = let q : k ≡ n = cc in absurd (true≢false (sym (eq-eqb k n q) ∙ other))
       go false e = (refl, e)
 
 -- nothing comes from no lines
-pub ended : (r : Refusal) → first [] ≡ Refuses r → ⊥
-ended r e = let h : Passes ≡ Refuses r = sym end ∙ e in let z : _≡_ {A = ℕ} 0 1 = cc in omega arith
+pub ended : (n : ℕ) (v : List ℤ) → first [] ≡ refuses n v → ⊥
+ended n v e = let h : passes ≡ refuses n v = sym end ∙ e in let z : _≡_ {A = ℕ} 0 1 = cc in omega arith
 
 -- ---- one table after another
 
--- the verdict of a table, or of the one after it where it passes
-abbrev then : Verdict → Verdict → Verdict
-then Passes v = v
-then (Refuses r) v = Refuses r
+earlier-assoc : (k l m : Line) → earlier k (earlier l m) ≡ earlier (earlier k l) m
+earlier-assoc passes l m = refl
+earlier-assoc (refuses n v) l m = refl
 
-pick-then : (r : Refusal) (b : Bool) (u v : Verdict) → pick r b (then u v) ≡ then (pick r b u) v
-pick-then r true u v = refl
-pick-then r false u v = refl
-
-first-then : (ls ms : List Line) → first (ls ++ ms) ≡ then (first ls) (first ms)
+first-append : (ls ms : List Line) → first (ls ++ ms) ≡ earlier (first ls) (first ms)
 unfolding first
-first-then [] ms = refl
-first-then (l ∷ ls) ms = ap (pick (l .refusal) (l .applies)) (first-then ls ms) ∙ pick-then (l .refusal) (l .applies) (first ls) (first ms)
+first-append [] ms = refl
+first-append (l ∷ ls) ms = ap (earlier l) (first-append ls ms) ∙ earlier-assoc l (first ls) (first ms)
 
 module _ (ls ms : List Line) where
-  pub passed-on : first ls ≡ Passes → first (ls ++ ms) ≡ first ms
-  passed-on h = first-then ls ms ∙ ap (λ (v : Verdict). then v (first ms)) h
+  pub passed-on : first ls ≡ passes → first (ls ++ ms) ≡ first ms
+  passed-on h = first-append ls ms ∙ ap (λ (l : Line). earlier l (first ms)) h
 
-  pub refused-before : (r : Refusal) → first ls ≡ Refuses r → first (ls ++ ms) ≡ Refuses r
-  refused-before r h = first-then ls ms ∙ ap (λ (v : Verdict). then v (first ms)) h
+  pub refused-before : {n : ℕ} {v : List ℤ} → first ls ≡ refuses n v → first (ls ++ ms) ≡ refuses n v
+  refused-before h = first-append ls ms ∙ ap (λ (l : Line). earlier l (first ms)) h
 
 -- two tables pass only where each does
-pub parted : (ls ms : List Line) → first (ls ++ ms) ≡ Passes → (first ls ≡ Passes) × (first ms ≡ Passes)
+pub parted : (ls ms : List Line) → first (ls ++ ms) ≡ passes → (first ls ≡ passes) × (first ms ≡ passes)
 parted [] ms h = (end, h)
 parted (l ∷ ls) ms h =
     let p = passed l (ls ++ ms) h in
     let q = parted ls ms (p .1) in
     (skip l ls (p .0) ∙ q .0, q .1)
+
+-- ---- the verdicts of code
+
+pub verdict-passes : (v : Verdict) → lineOf v ≡ passes → v ≡ Passes
+verdict-passes Passes h = refl
+verdict-passes (Refuses r) h = absurd (let z : _≡_ {A = ℕ} 0 1 = cc in omega arith)
 
 -- ---- a number below a lower bound, from it on, and within two bounds
 module _ (low high n : ℕ) where

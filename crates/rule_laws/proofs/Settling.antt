@@ -1,31 +1,24 @@
 -- What settle's answer says of its table. Assumes nothing.
-use mathlib.Core.Path.{_≡_, refl, ap}
+use mathlib.Core.Path.{_≡_, sym}
+use mathlib.Core.List.{List}
 use Prim.Native.Nat.{ℕ}
-use native.Mathlib.Omega.{arith}
+use lib.IntN.{ℤ}
 use Rattle.rules.specs.declared.Settings.{Settings}
 use Rattle.rules.specs.declared.Weights.{Weights}
-use Rattle.rules.specs.declared.Refusal.{Refusal}
-use Rattle.rules.specs.declared.Settled.the-variants.{Weighed, Refused}
-use Rattle.rules.specs.declared.Verdict.{Verdict}
-use Rattle.rules.specs.declared.Verdict.the-variants.{Passes, Refuses}
 use Rattle.rules.specs.Weights.{weightsOf}
-use Rattle.rules.specs.Refusals.{first}
-use Rattle.rules.specs.Settle.{settleLines, settled, settle}
+use Rattle.rules.specs.Refusals.{passes, refuses, first}
+use Rattle.rules.specs.Answers.{given, refused, weightValues}
+use Rattle.rules.specs.Settle.{settleLines, settle}
+use Rattle.rule_laws.proofs.Answers.{same-weights, gave, declined}
 
-opened : (v : Verdict) (x w : Weights) → settled v x ≡ Weighed w → (v ≡ Passes) × (x ≡ w)
-opened Passes x w e = (refl, (cc))
-opened (Refuses r) x w e = absurd (let z : _≡_ {A = ℕ} 0 1 = cc in omega arith)
-
-closed : (v : Verdict) (x : Weights) (r : Refusal) → settled v x ≡ Refused r → v ≡ Refuses r
-closed Passes x r e = absurd (let z : _≡_ {A = ℕ} 0 1 = cc in omega arith)
-closed (Refuses q) x r e = let h : q ≡ r = cc in ap Refuses h
-
--- weights: no line applies, and they are the settings'
-pub weighed-passes : (s : Settings) (w : Weights) → settle s ≡ Weighed w → (first (settleLines s) ≡ Passes) × (weightsOf s ≡ w)
+-- weights: no line refuses, and they are the settings'
+pub weighed-passes : (s : Settings) (w : Weights) → given (weightValues w) ≡ settle s → (first (settleLines s) ≡ passes) × (weightsOf s ≡ w)
 unfolding settle
-weighed-passes s w e = opened (first (settleLines s)) (weightsOf s) w e
+weighed-passes s w e =
+    let g = gave (first (settleLines s)) (given (weightValues (weightsOf s))) (weightValues w) e in
+    (g .0, sym (same-weights w (weightsOf s) (g .1)))
 
--- a refusal: its line is the first that applies
-pub refused-refuses : (s : Settings) (r : Refusal) → settle s ≡ Refused r → first (settleLines s) ≡ Refuses r
+-- a refusal: its line is the first that refuses
+pub refused-refuses : (s : Settings) (n : ℕ) (v : List ℤ) → refused n v ≡ settle s → first (settleLines s) ≡ refuses n v
 unfolding settle
-refused-refuses s r e = closed (first (settleLines s)) (weightsOf s) r e
+refused-refuses s n v e = declined (first (settleLines s)) (weightValues (weightsOf s)) n v e

@@ -1,19 +1,18 @@
 -- Document 01, refusals 7 to 10: what is asked of a frame and its buffers. Definitions only.
-use Prim.Native.Nat.{ℕ, zero, suc, _*_}
-use mathlib.Core.Bool.{Bool, true, false, not, _||_, cond}
+use Prim.Native.Nat.{ℕ, zero, suc, _*_, _/_, _%_}
+use mathlib.Core.Bool.{Bool, not, _||_}
 use mathlib.Core.List.{List, [], _∷_}
-use lib.Dec.{ltb, eqb}
+use lib.Dec.{leb, eqb}
 use lib.ListN.{length}
 use Rattle.rules.specs.declared.Settings.{Settings}
 use Rattle.rules.specs.declared.Frame.{Frame}
 use Rattle.rules.specs.declared.Pixel.{Pixel}
 use Rattle.rules.specs.declared.Search.{Search}
-use Rattle.rules.specs.declared.Search.the-variants.{Nothing, Found}
-use Rattle.rules.specs.declared.Refusal.the-variants.{Size, Stride, Length, TooLarge}
 use Rattle.rules.specs.Ranges.{most}
 use Rattle.rules.specs.Channels.{count, Picture, picture}
 use Rattle.rules.specs.Blocks.{chromaWidth, chromaHeight}
-use Rattle.rules.specs.Refusals.{outside, Line, line}
+use Rattle.rules.specs.Refusals.{outside, Line, line, first}
+use Rattle.rules.specs.Search.{Test, firstFailing, isFound}
 
 -- 7: "width or height is 0 or over 16,384"
 abbrev pub sizeOff : Frame → Bool
@@ -31,40 +30,49 @@ lengthOff s f source luma chroma =
     not (eqb source (f .height * f .«source_stride»))
     || (not (eqb luma (f .height * f .«luma_stride»)) || not (eqb chroma (chromaHeight (s .subsampling) (f .height) * f .«chroma_stride»)))
 
+-- the picture that the source of a frame shows
+abbrev pub shown : Settings → Frame → List ℕ → Picture
+shown s f source = picture (s .channels) (f .«source_stride») source
+
 -- ---- 10: "a visible colour sample of the source exceeds m"
 
-abbrev pub place : ℕ → ℕ → ℕ → Search
-place row pixel channel = Found (record { row = row; pixel = pixel; channel = channel })
+-- channel 0 of a pixel is red, 1 green and 2 blue
+abbrev pub channelOf : ℕ → Pixel → ℕ
+channelOf zero p = p .red
+channelOf (suc zero) p = p .green
+channelOf (suc (suc n)) p = p .blue
 
-abbrev pub orElse : Search → Search → Search
-orElse Nothing s = s
-orElse (Found q) s = Found q
+-- the colour samples of a row, numbered: red, green and blue of the first pixel, then of the next
+abbrev pub colourSample : Picture → ℕ → ℕ → ℕ
+colourSample px row i = channelOf (i % 3) (px row (i / 3))
 
--- what f finds first, at 0, 1, .., n − 1
-unfoldable pub firstBelow : ℕ → (ℕ → Search) → Search
-firstBelow zero f = Nothing
-firstBelow (suc n) f = orElse (firstBelow n f) (f n)
+abbrev pub lowTest : ℕ → Picture → Test
+lowTest m px row i = leb (colourSample px row i) m
 
--- the first channel of a pixel that exceeds m: red before green before blue
-abbrev pub highAt : ℕ → ℕ → ℕ → Pixel → Search
-highAt m row pixel p =
-    cond (ltb m (p .red)) (place row pixel 0) (cond (ltb m (p .green)) (place row pixel 1) (cond (ltb m (p .blue)) (place row pixel 2) Nothing))
+-- the first visible colour sample that exceeds m, reading row by row
+unfoldable pub tooLarge : ℕ → Frame → Picture → Search
+tooLarge m f px = firstFailing (lowTest m px) (3 * f .width) (f .height)
 
--- the first visible sample that exceeds m, reading row by row
-unfoldable pub tooLargeAt : ℕ → Frame → Picture → Search
-tooLargeAt m f px = firstBelow (f .height) (λ row. firstBelow (f .width) (λ pixel. highAt m row pixel (px row pixel)))
+-- ---- a line for each test
 
-abbrev pub isFound : Search → Bool
-isFound Nothing = false
-isFound (Found q) = true
+abbrev pub sizeLine : Frame → Line
+sizeLine f = line 7 (sizeOff f)
 
--- ---- the table's lines for a frame
+abbrev pub strideLine : Settings → Frame → Line
+strideLine s f = line 8 (strideOff s f)
 
--- by the source and the lengths of the two planes
+-- by the lengths of the source and of the two planes
+abbrev pub lengthLine : Settings → Frame → ℕ → ℕ → ℕ → Line
+lengthLine s f source luma chroma = line 9 (lengthOff s f source luma chroma)
+
+abbrev pub tooLargeLine : Settings → Frame → List ℕ → Line
+tooLargeLine s f source = line 10 (isFound (tooLarge (most (s .depth)) f (shown s f source)))
+
+-- what convert and check ask of a frame, in order
 abbrev pub frameLines : Settings → Frame → List ℕ → ℕ → ℕ → List Line
 frameLines s f source luma chroma =
-    line Size (sizeOff f) ∷
-    line Stride (strideOff s f) ∷
-    line Length (lengthOff s f (length source) luma chroma) ∷
-    line TooLarge (isFound (tooLargeAt (most (s .depth)) f (picture (s .channels) (f .«source_stride») source))) ∷
-    []
+    sizeLine f ∷ strideLine s f ∷ lengthLine s f (length source) luma chroma ∷ tooLargeLine s f source ∷ []
+
+-- what these lines come to, for a source and two planes
+abbrev pub frameLine : Settings → Frame → List ℕ → List ℕ → List ℕ → Line
+frameLine s f source luma chroma = first (frameLines s f source (length luma) (length chroma))

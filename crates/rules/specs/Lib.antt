@@ -4,9 +4,12 @@ pub mod Matrices
 pub mod Weights
 pub mod Sample
 pub mod Blocks
+pub mod PlaneSamples
 pub mod Storage
 pub mod Planes
 pub mod Refusals
+pub mod Answers
+pub mod Search
 pub mod Settle
 pub mod Fractions
 pub mod Frames

@@ -1,12 +1,15 @@
--- Document 01, "The refusal numbers, in order". Definitions only.
+-- Document 01, "The refusal numbers, in order": a refusal's number and values, and how a table of tests comes to an answer. Definitions only.
 use Prim.Native.Nat.{ℕ}
 use mathlib.Core.Bool.{Bool, true, false, not, _&&_}
 use mathlib.Core.List.{List, [], _∷_}
 use lib.Dec.{leb}
-use Rattle.rules.specs.declared.Verdict.{Verdict}
-use Rattle.rules.specs.declared.Verdict.the-variants.{Passes, Refuses}
+use lib.IntN.{ℤ}
 use Rattle.rules.specs.declared.Refusal.{Refusal}
 use Rattle.rules.specs.declared.Refusal.the-variants.{Depth, Precision, CustomPair, WeightOff, CodeOutside, CustomUnchecked, Size, Stride, Length, TooLarge}
+use Rattle.rules.specs.declared.Verdict.{Verdict}
+use Rattle.rules.specs.declared.Verdict.the-variants.{Passes, Refuses}
+
+-- ---- a refusal in the paper's terms
 
 abbrev pub numberOf : Refusal → ℕ
 numberOf Depth = 1
@@ -20,23 +23,36 @@ numberOf Stride = 8
 numberOf Length = 9
 numberOf TooLarge = 10
 
+-- "A refusal returns its number only"
+abbrev pub valuesOf : Refusal → List ℤ
+valuesOf r = []
+
+-- ---- a table of tests
+
+-- a line of a table: its test passes, or refuses with a number and the values that come with it
+pub data Line : Type 0 where
+  passes : Line
+  refuses : ℕ → List ℤ → Line
+
+-- the line of a test that refuses by its number alone, where it applies
+abbrev pub line : ℕ → Bool → Line
+line n true = refuses n []
+line n false = passes
+
+-- "given exactly when no earlier one applies and" its own test does
+abbrev pub earlier : Line → Line → Line
+earlier passes l = l
+earlier (refuses n v) l = refuses n v
+
+unfoldable pub first : List Line → Line
+first [] = passes
+first (l ∷ ls) = earlier l (first ls)
+
+-- the line that a verdict of the code stands for
+abbrev pub lineOf : Verdict → Line
+lineOf Passes = passes
+lineOf (Refuses r) = refuses (numberOf r) (valuesOf r)
+
 -- n is not low to high
 abbrev pub outside : ℕ → ℕ → ℕ → Bool
 outside low high n = not (leb low n && leb n high)
-
--- a line of the table: the refusal, and whether its test applies
-pub record Line : Type 0 where
-  pub refusal : Refusal
-  pub applies : Bool
-
-abbrev pub line : Refusal → Bool → Line
-line r b = record { refusal = r; applies = b }
-
--- "given exactly when no earlier one applies and" its own test does
-abbrev pub pick : Refusal → Bool → Verdict → Verdict
-pick r true v = Refuses r
-pick r false v = v
-
-unfoldable pub first : List Line → Verdict
-first [] = Passes
-first (l ∷ ls) = pick (l .refusal) (l .applies) (first ls)

@@ -10,9 +10,6 @@ use Rattle.rules.specs.declared.Settings.{Settings}
 use Rattle.rules.specs.declared.Pixel.{Pixel}
 use Rattle.rules.specs.declared.Triple.{Triple}
 use Rattle.rules.specs.declared.Weights.{Weights}
-use Rattle.rules.specs.declared.Settled.{Settled}
-use Rattle.rules.specs.declared.Settled.the-variants.{Weighed, Refused}
-use Rattle.rules.specs.declared.Refusal.the-variants.{Depth, Precision, CustomPair, WeightOff, CodeOutside}
 use Rattle.rules.specs.declared.YuvBias.{YuvBias}
 use Rattle.rules.specs.declared.Named.{Named}
 use Rattle.rules.specs.declared.Matrix.{Matrix}
@@ -21,9 +18,8 @@ use Rattle.rules.specs.Ranges.{most, biasY, biasUV, rangeY, rangeUV}
 use Rattle.rules.specs.Matrices.{kg, matrixOf}
 use Rattle.rules.specs.Weights.{nought, rest, weightsOf, lumaRow, cbRow, crRow}
 use Rattle.rules.specs.Sample.{signedCode}
-use Rattle.rules.specs.declared.Verdict.{Verdict}
-use Rattle.rules.specs.declared.Verdict.the-variants.{Passes, Refuses}
 use Rattle.rules.specs.Refusals.{outside, Line, line, first}
+use Rattle.rules.specs.Answers.{Answer, given, answer, weightValues}
 
 -- ---- 3: "custom pair: not (kr > 0 and kb > 0 and kg > 0, kg as worked out in f32); not-a-number counts as failing"
 
@@ -92,21 +88,26 @@ someCodeOff s w =
     || (codeOff p m uv (crRow w) (red m)
     || codeOff p m uv (crRow w) (cyan m))))
 
--- ---- the table, and the answer
+-- ---- the table, a line for each test, and the answer
+
+abbrev pub depthLine : Settings → Line
+depthLine s = line 1 (outside 10 16 (s .depth))
+
+abbrev pub precisionLine : Settings → Line
+precisionLine s = line 2 (outside 1 13 (s .precision))
+
+abbrev pub pairLine : Settings → Line
+pairLine s = line 3 (pairOff (matrixOf (s .matrix)))
+
+abbrev pub weightLine : Settings → Line
+weightLine s = line 4 (weightOff s (matrixOf (s .matrix)) (weightsOf s))
+
+abbrev pub codeLine : Settings → Line
+codeLine s = line 5 (someCodeOff s (weightsOf s))
 
 abbrev pub settleLines : Settings → List Line
-settleLines s =
-    line Depth (outside 10 16 (s .depth)) ∷
-    line Precision (outside 1 13 (s .precision)) ∷
-    line CustomPair (pairOff (matrixOf (s .matrix))) ∷
-    line WeightOff (weightOff s (matrixOf (s .matrix)) (weightsOf s)) ∷
-    line CodeOutside (someCodeOff s (weightsOf s)) ∷
-    []
+settleLines s = depthLine s ∷ precisionLine s ∷ pairLine s ∷ weightLine s ∷ codeLine s ∷ []
 
--- "A refusal returns its number only. Settle's success returns the nine integer weights"
-abbrev pub settled : Verdict → Weights → Settled
-settled Passes w = Weighed w
-settled (Refuses r) w = Refused r
-
-unfoldable pub settle : Settings → Settled
-settle s = settled (first (settleLines s)) (weightsOf s)
+-- THE PROMISE of settle
+unfoldable pub settle : Settings → Answer
+settle s = answer (first (settleLines s)) (given (weightValues (weightsOf s)))

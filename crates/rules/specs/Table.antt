@@ -1,16 +1,14 @@
 -- Document 01, "Table of proved examples": J's weights and p1 to p12, by one statement over one list.
 use mathlib.Core.Bool.{Bool, true, false, not, _&&_}
 use mathlib.Core.List.{List, [], _∷_}
-use Prim.Native.Nat.{ℕ}
+use Prim.Native.Nat.{ℕ, _+_}
 use lib.Count.{trailingZeros}
 use lib.Dec.{T, eqb}
 use lib.Ieee.{mul, div, sub, sum, neg, round, units, odd, size, span, climb, ofInt}
 use lib.IntN.{ℤ, pos, negsuc}
-use lib.ListN.{length}
+use lib.ListN.{length, getD}
 use lib.Signed.{leZ}
 use Rattle.rules.specs.declared.Settings.{Settings}
-use Rattle.rules.specs.declared.Settled.{Settled}
-use Rattle.rules.specs.declared.Settled.the-variants.{Weighed, Refused}
 use Rattle.rules.specs.declared.Matrix.{Matrix}
 use Rattle.rules.specs.declared.Matrix.the-variants.{Tabled, Own}
 use Rattle.rules.specs.declared.Pixel.{Pixel}
@@ -32,9 +30,11 @@ use Rattle.rules.specs.Weights.{forward, rounded, weightsOf, lumaRow, cb
 use Rattle.rules.specs.Sample.{weighted, signedCode}
 use Rattle.rules.specs.Blocks.{total, mean}
 use Rattle.rules.specs.Storage.{word}
-use Rattle.rules.specs.Refusals.{numberOf, first}
+use Rattle.rules.specs.Refusals.{first}
+use Rattle.rules.specs.Answers.{Answer, given, refused}
 use Rattle.rules.specs.Settle.{near, rowNear, allNear, colour, white, blue, yellow, red, codeOff, someCodeOff, settle}
-use Rattle.rules.specs.Check.{lumaRight}
+use Rattle.rules.specs.PlaneSamples.{lumaSample}
+use Rattle.rules.specs.Check.{right}
 
 -- an example, with what it must give last
 pub data Example : Type 0 where
@@ -46,9 +46,10 @@ pub data Example : Type 0 where
   stores : YuvBytesPacking → YuvEndianness → ℕ → ℕ → ℕ → Example
   -- the mean of some samples
   means : List ℕ → ℕ → Example
-  -- a row of the weights that settle hands out, and the number by which it refuses
-  settles : Settings → (Weights → Triple) → Triple → Example
-  refuses : Settings → ℕ → Example
+  -- three of the nine weights that settle hands out: from 0 on those of luma, from 3 on of Cb, from 6 on of Cr
+  settles : Settings → ℕ → Triple → Example
+  -- the number by which settle refuses
+  declines : Settings → ℕ → Example
 
 abbrev pub sameZ : ℤ → ℤ → Bool
 sameZ a b = leZ a b && leZ b a
@@ -57,20 +58,17 @@ abbrev pub same : Bool → Bool → Bool
 same true b = b
 same false b = not b
 
-abbrev pub sameRow : Triple → Triple → Bool
-sameRow a b = sameZ (a .red) (b .red) && (sameZ (a .green) (b .green) && sameZ (a .blue) (b .blue))
+abbrev pub givesRow : Answer → ℕ → Triple → Bool
+givesRow (given v) n t = sameZ (getD v n (pos 0)) (t .red) && (sameZ (getD v (n + 1) (pos 0)) (t .green) && sameZ (getD v (n + 2) (pos 0)) (t .blue))
+givesRow (refused m v) n t = false
 
-abbrev pub accepts : Settled → (Weights → Triple) → Triple → Bool
-accepts (Weighed w) row t = sameRow (row w) t
-accepts (Refused r) row t = false
-
-abbrev pub declines : Settled → ℕ → Bool
-declines (Weighed w) n = false
-declines (Refused r) n = eqb (numberOf r) n
+abbrev pub givesNumber : Answer → ℕ → Bool
+givesNumber (given v) n = false
+givesNumber (refused m v) n = eqb m n
 
 -- by Kr and Kb of the matrix's row; a custom matrix has none
 abbrev pub judges : Matrix → Settings → Pixel → ℕ → Bool → Bool
-judges (Tabled k) s x c e = same e (lumaRight s k (λ row column. x) 0 0 c)
+judges (Tabled k) s x c e = same e (right s k (lumaSample (λ row column. x) 0 0) c)
 judges (Own p) s x c e = false
 
 unfoldable pub holds : Example → Bool
@@ -78,8 +76,8 @@ holds (codes p bias w x c) = sameZ (signedCode p bias w x) c
 holds (checks s x c e) = judges (matrixOf (s .matrix)) s x c e
 holds (stores k e d c v) = eqb (word k e d c) v
 holds (means l m) = eqb (mean (length l) (total l)) m
-holds (settles s row t) = accepts (settle s) row t
-holds (refuses s n) = declines (settle s) n
+holds (settles s n t) = givesRow (settle s) n t
+holds (declines s n) = givesNumber (settle s) n
 
 unfoldable pub every : List Example → Bool
 every [] = true
@@ -123,9 +121,9 @@ luma r g b = record { red = r; green = g; blue = b }
 abbrev examples : List Example
 examples =
     -- J's weights, from which p1 to p6 start
-    settles j lumaRow (lumaRow jWeights) ∷
-    settles j cbRow (cbRow jWeights) ∷
-    settles j crRow (crRow jWeights) ∷
+    settles j 0 (lumaRow jWeights) ∷
+    settles j 3 (cbRow jWeights) ∷
+    settles j 6 (crRow jWeights) ∷
     -- p1: J red (1023,0,0): 306, 339, 1023
     codes 13 0 (lumaRow jWeights) (red 1023) (pos 306) ∷
     codes 13 512 (cbRow jWeights) (red 1023) (pos 339) ∷
@@ -147,7 +145,7 @@ examples =
     checks j (red 1023) 305 false ∷
     checks j (red 1023) 307 false ∷
     -- p7: luma weights 1491, 5017, 506 (Bt709 limited, d = 10, P = 13): white 940
-    settles (example 10 Bt709 Limited) lumaRow (luma (pos 1491) (pos 5017) (pos 506)) ∷
+    settles (example 10 Bt709 Limited) 0 (luma (pos 1491) (pos 5017) (pos 506)) ∷
     codes 13 64 (luma (pos 1491) (pos 5017) (pos 506)) (white 1023) (pos 940) ∷
     -- p8: 940 at d = 10: most-significant 60160, exchanged 235
     stores MostSignificantBytes LittleEndian 10 940 60160 ∷
@@ -158,11 +156,11 @@ examples =
     means (0 ∷ 0 ∷ 0 ∷ 1 ∷ []) 0 ∷
     means (0 ∷ 0 ∷ 1 ∷ 1 ∷ []) 1 ∷
     -- p11: luma weights 1737, 5743, 713 (Smpte240 full, P = 13): white at d = 12 is 4095
-    settles (example 12 Smpte240 Full) lumaRow (luma (pos 1737) (pos 5743) (pos 713)) ∷
+    settles (example 12 Smpte240 Full) 0 (luma (pos 1737) (pos 5743) (pos 713)) ∷
     codes 13 0 (luma (pos 1737) (pos 5743) (pos 713)) (white 4095) (pos 4095) ∷
     -- p12: the same at d = 13: white is 8192, refusal 5
     codes 13 0 (luma (pos 1737) (pos 5743) (pos 713)) (white 8191) (pos 8192) ∷
-    refuses (example 13 Smpte240 Full) 5 ∷
+    declines (example 13 Smpte240 Full) 5 ∷
     []
 
 pub table : T (every examples)

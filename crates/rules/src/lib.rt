@@ -123,6 +123,13 @@ pub struct Pixel {
     pub blue: u16,
 }
 
+// What a sample of a plane holds: luma, or one of the two chroma components.
+pub enum Component {
+    Y,
+    Cb,
+    Cr,
+}
+
 // Three weights, for red, green and blue.
 pub struct Triple {
     pub red: i32,
@@ -190,23 +197,16 @@ impl Refusal {
     }
 }
 
-// What a table of refusals says of an input: no line applies, or this refusal is given.
+// What the tests of an input come to: none refuses, or this refusal is given.
 pub enum Verdict {
     Passes,
     Refuses(Refusal),
 }
 
-// Where a colour sample of the source stands: rows and pixels count from 0; channel 0 is red, 1 green and 2 blue.
-pub struct SourcePlace {
-    pub row: usize,
-    pub pixel: usize,
-    pub channel: usize,
-}
-
-// What a search through the source finds.
+// What a search through rows of samples finds: nothing, or the row and the element of the first sample that fails.
 pub enum Search {
     Nothing,
-    Found(SourcePlace),
+    At(usize, usize),
 }
 
 // What settle answers.

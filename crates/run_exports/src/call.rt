@@ -6,7 +6,7 @@ use cases::case::Case;
 use cases::draw;
 use cases::text;
 use libc::STDOUT_FILENO;
-use settle::sizes;
+use weight_nearness::sizes;
 
 fn put(text: &[u8]) {
     io::write_all(STDOUT_FILENO, text);

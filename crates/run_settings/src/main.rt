@@ -10,7 +10,7 @@ use rules::YuvNVOrder;
 use rules::YuvRange;
 use rules::YuvSourceChannels;
 use rules::YuvStandardMatrix;
-use settle::sizes;
+use weight_nearness::sizes;
 
 mod pairs;
 

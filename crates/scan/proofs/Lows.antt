@@ -1,24 +1,27 @@
 -- Rows and pictures of which no sample exceeds m, and that nothing is found in them. Assumes nothing.
 use mathlib.Core.Path.{_≡_, sym, ap, _∙_, subst}
+use mathlib.Core.Bool.{true}
 use mathlib.Core.List.{List}
-use Prim.Native.Nat.{ℕ, _+_, _*_, _%_, _≤_, _<_}
+use Prim.Native.Nat.{ℕ, zero, suc, _+_, _*_, _/_, _%_, _≤_, _<_}
 use native.Mathlib.Nat.{le-trans, mul-mod-left, mul-add-mod-self-right, mod-eq-of-lt}
 use native.Mathlib.Omega.{arith}
 use lib.ListN.{length, getD}
-use borrow.Author.Tests.{le-ltb}
+use borrow.Author.Tests.{le-leb}
 use borrow.Author.Count.{below-more}
 use Rattle.rules.specs.declared.Frame.{Frame}
 use Rattle.rules.specs.declared.Pixel.{Pixel}
 use Rattle.rules.specs.declared.YuvSourceChannels.{YuvSourceChannels}
 use Rattle.rules.specs.declared.Search.the-variants.{Nothing}
 use Rattle.rules.specs.Channels.{Picture, count, picture}
-use Rattle.rules.specs.Frames.{firstBelow, highAt, tooLargeAt}
+use Rattle.rules.specs.Search.{Clean}
+use Rattle.rules.specs.Frames.{channelOf, colourSample, lowTest, tooLarge}
 use Rattle.rule_laws.specs.Codes.{Low}
 use Rattle.plane_laws.proofs.Tables.{step-le}
-use Rattle.plane_laws.proofs.Firsts.{none-all}
+use Rattle.plane_laws.proofs.Searches.{clean-none}
 use Rattle.frames.specs.Rows.{rowPixel, Shows, LowRow, LowPicture}
 use Rattle.frames.specs.SourceRows.{SourceRow}
-use Rattle.scan.specs.Bounds.{Alike, BoundsAt, Bounds, LowFour}
+use Rattle.row_bounds.specs.Bounds.{Alike, BoundsAt, Bounds}
+use Rattle.scan.specs.Fours.{LowFour}
 use Rattle.frames.proofs.Places.{places}
 
 -- ---- what is low
@@ -81,15 +84,18 @@ all-low c m stride width height source h = record { low = λ row b. record { low
 
 -- ---- nothing is found there
 
-pixel-nothing : (m row x : ℕ) (p : Pixel) → Low m p → highAt m row x p ≡ Nothing
-pixel-nothing m row x p l = rw (le-ltb m (p .red) (l .red), le-ltb m (p .green) (l .green), le-ltb m (p .blue) (l .blue))
+low-channel : (m n : ℕ) (p : Pixel) → Low m p → channelOf n p ≤ m
+low-channel m zero p l = l .red
+low-channel m (suc zero) p l = l .green
+low-channel m (suc (suc n)) p l = l .blue
 
-row-nothing : (m row width : ℕ) (p : ℕ → Pixel) → LowRow m p width → firstBelow width (λ x. highAt m row x (p x)) ≡ Nothing
-row-nothing m row width p l = none-all width _ (λ x b. pixel-nothing m row x (p x) (l .low x b))
+-- no colour sample of a row fails
+sample-low : (m row width : ℕ) (px : Picture) → LowRow m (px row) width → (i : ℕ) → i < 3 * width → lowTest m px row i ≡ true
+sample-low m row width px l i b = le-leb (colourSample px row i) m (low-channel m (i % 3) (px row (i / 3)) (l .low (i / 3) (omega arith)))
 
-pub rows-nothing : (m width rows : ℕ) (px : Picture) → LowPicture m px width rows → firstBelow rows (λ row. firstBelow width (λ x. highAt m row x (px row x))) ≡ Nothing
-rows-nothing m width rows px l = none-all rows _ (λ row b. row-nothing m row width (px row) (l .low row b))
+pub rows-clean : (m width rows : ℕ) (px : Picture) → LowPicture m px width rows → Clean (lowTest m px) (3 * width) rows
+rows-clean m width rows px l = record { clean = λ row i b k. sample-low m row width px (l .low row b) i k }
 
-pub picture-nothing : (m : ℕ) (f : Frame) (px : Picture) → LowPicture m px (f .width) (f .height) → tooLargeAt m f px ≡ Nothing
-unfolding tooLargeAt
-picture-nothing m f px l = rows-nothing m (f .width) (f .height) px l
+pub picture-nothing : (m : ℕ) (f : Frame) (px : Picture) → LowPicture m px (f .width) (f .height) → tooLarge m f px ≡ Nothing
+unfolding tooLarge
+picture-nothing m f px l = clean-none (lowTest m px) (3 * f .width) (f .height) (rows-clean m (f .width) (f .height) px l)

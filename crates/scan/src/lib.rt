@@ -1,21 +1,20 @@
-// Refusal 10: the first visible colour sample that exceeds m, row by row, pixel by pixel, red before green before blue.
+// Refusal 10: the first visible colour sample that exceeds m, reading row by row.
 ghost use mathlib.Core.Path.{_≡_};
 ghost use Prim.Native.Nat.{_*_, _<_, _≤_};
+ghost use lib.Dec.{leb};
 ghost use lib.ListN.{length};
 ghost use Rattle.rules.specs.Channels.{count, picture};
-ghost use Rattle.rules.specs.Frames.{place, firstBelow, highAt, tooLargeAt, isFound};
-ghost use Rattle.frames.specs.Rows.{rowPixel, Rows, LowPicture};
-ghost use Rattle.scan.specs.Bounds.{LowFour};
+ghost use Rattle.rules.specs.Search.{firstBelow, failing, isFound};
+ghost use Rattle.rules.specs.Frames.{channelOf, tooLarge};
+ghost use Rattle.frames.specs.Rows.{Rows, LowPicture};
+ghost use Rattle.scan.specs.Fours.{sampleOf, LowFour};
 ghost use Rattle.frames.specs.Tests.{Sized};
-
-mod bound;
 
 use frames::channels;
 use frames::rows;
 use rules::Frame;
 use rules::Pixel;
 use rules::Search;
-use rules::SourcePlace;
 use rules::YuvSourceChannels;
 
 pub fn is_found(s: Search) -> bool
@@ -23,49 +22,43 @@ pub fn is_found(s: Search) -> bool
 {
     match s {
         Search::Nothing => false,
-        Search::Found(q) => true,
+        Search::At(row, element) => true,
     }
 }
 
-fn place(row: usize, pixel: usize, channel: usize) -> Search
-    ensures { λ r. ⌜ r ≡ place row pixel channel ⌝ }
+// Channel 0 of a pixel is red, 1 green and 2 blue.
+fn channel_of(channel: usize, p: Pixel) -> u16
+    ensures { λ r. ⌜ r ≡ channelOf channel p ⌝ }
 {
-    Search::Found(SourcePlace {
-        row,
-        pixel,
-        channel,
-    })
+    if channel == 0 {
+        return p.red;
+    }
+    if channel == 1 {
+        return p.green;
+    }
+    p.blue
 }
 
-// The first channel of a pixel that exceeds m.
-fn high_at(m: u16, row: usize, pixel: usize, p: Pixel) -> Search
-    ensures { λ r. ⌜ r ≡ highAt m row pixel p ⌝ }
+// Colour sample i of a row part: red, green and blue of the first pixel, then of the next.
+fn colour_sample(channels: YuvSourceChannels, part: &[u16], width: usize, i: usize) -> u16
+    requires { ⌜ (i < 3 * width) × (width * count channels ≤ length (now part)) ⌝ }
+    ensures { λ r. ⌜ r ≡ sampleOf channels (now (part .entry)) i ⌝ }
 {
-    if m < p.red {
-        return place(row, pixel, 0);
-    }
-    if m < p.green {
-        return place(row, pixel, 1);
-    }
-    if m < p.blue {
-        return place(row, pixel, 2);
-    }
-    Search::Nothing
+    channel_of(i % 3, channels::row_pixel(channels, part, width, i / 3))
 }
 
-// The first place in a row, by a row part that shows it.
+// The first colour sample of a row that exceeds m, by a row part that shows it.
 fn row_high(m: u16, channels: YuvSourceChannels, width: usize, row: usize, part: &[u16]) -> Search
-    requires { ⌜ width * count channels ≤ length (now part) ⌝ }
-    ensures { λ r. ⌜ r ≡ firstBelow width (λ x. highAt m row x (rowPixel channels (now (part .entry)) x)) ⌝ }
+    requires { ⌜ (width ≤ 16384) × (width * count channels ≤ length (now part)) ⌝ }
+    ensures { λ r. ⌜ r ≡ firstBelow (3 * width) (λ i. failing (leb (sampleOf channels (now (part .entry)) i) m) row i) ⌝ }
 {
-    let mut x = 0;
-    while x < width {
-        let p = channels::row_pixel(channels, part, width, x);
-        let found = high_at(m, row, x, p);
-        if is_found(found) {
-            return found;
+    let samples = 3 * width;
+    let mut i = 0;
+    while i < samples {
+        if m < colour_sample(channels, part, width, i) {
+            return Search::At(row, i);
         }
-        x += 1;
+        i += 1;
     }
     Search::Nothing
 }
@@ -91,7 +84,7 @@ fn bound_from(channels: YuvSourceChannels, f: Frame, source: &[u16], row: usize)
     let b = rows::source_row(channels, f, source, least(row + 1, last));
     let c = rows::source_row(channels, f, source, least(row + 2, last));
     let e = rows::source_row(channels, f, source, least(row + 3, last));
-    bound::four_rows(channels, a, b, c, e)
+    row_bounds::four_rows(channels, a, b, c, e)
 }
 
 // How many rows, from the first on, surely have no colour sample that exceeds m: all, or those above the first four rows in which one does.
@@ -112,11 +105,11 @@ fn rows_low(m: u16, channels: YuvSourceChannels, f: Frame, source: &[u16]) -> us
     height
 }
 
-// 10
+// Refusal 10.
 pub fn too_large(m: u16, channels: YuvSourceChannels, f: Frame, source: &[u16]) -> Search
     requires { ⌜ Sized f ⌝ }
     requires { ⌜ Rows (length (now source)) (f .«source_stride») (f .width * count channels) (f .height) ⌝ }
-    ensures { λ r. ⌜ r ≡ tooLargeAt m f (picture channels (f .«source_stride») (now (source .entry))) ⌝ }
+    ensures { λ r. ⌜ r ≡ tooLarge m f (picture channels (f .«source_stride») (now (source .entry))) ⌝ }
 {
     // no sample of 16 bits exceeds this m
     if m == 65535 {

@@ -1,4 +1,2 @@
-pub mod Near
-pub mod Tests
 pub mod Verdicts
 pub mod Weighed

@@ -14,13 +14,13 @@ use Rattle.rules.specs.declared.Settings.{Settings}
 use Rattle.rules.specs.declared.Weights.{Weights}
 use Rattle.rules.specs.declared.Triple.{Triple}
 use Rattle.rules.specs.declared.Pixel.{Pixel}
-use Rattle.rules.specs.declared.Settled.the-variants.{Weighed}
 use Rattle.rules.specs.declared.YuvStandardMatrix.{YuvStandardMatrix}
 use Rattle.rules.specs.declared.YuvStandardMatrix.the-variants.{Bt601, Bt709, Bt2020, Smpte240, Bt470_6, Custom}
 use Rattle.rules.specs.Ranges.{most, biasY, biasUV, rangeY, rangeUV}
 use Rattle.rules.specs.Matrices.{matrixOf}
 use Rattle.rules.specs.Weights.{pairOf, weightsOf, lumaRow, cbRow, crRow}
 use Rattle.rules.specs.Sample.{signedCode}
+use Rattle.rules.specs.Answers.{given, weightValues}
 use Rattle.rules.specs.Settle.{positivePair, pairOff, black, white, blue, yellow, red, cyan, codeOff, someCodeOff, settle}
 use Rattle.rule_laws.specs.Signs.{Bounded}
 use Rattle.rule_laws.specs.Codes.{Between}
@@ -98,7 +98,7 @@ usable-weights s f k =
     }
 
 -- THE THEOREM: weights that settle hands out are usable
-pub usable : (s : Settings) (w : Weights) → Held (s .matrix) → settle s ≡ Weighed w → Usable s w
+pub usable : (s : Settings) (w : Weights) → Held (s .matrix) → given (weightValues w) ≡ settle s → Usable s w
 usable s w f e =
     let k = passed s w e in
     subst (Usable s) (k .1) (usable-weights s f (k .0))

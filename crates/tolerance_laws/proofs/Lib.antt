@@ -6,3 +6,4 @@ pub mod Rows
 pub mod Factors
 pub mod Tolerance
 pub mod Named
+pub mod Samples

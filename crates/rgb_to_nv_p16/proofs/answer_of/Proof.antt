@@ -1,7 +1,10 @@
 -- `rgb_to_nv_p16::answer_of` meets its contract. Assumes nothing.
 use borrow.Author.Needs.{needs}
 use mathlib.Core.Path.{sym, ap}
-use Rattle.rules.specs.Convert.{answer}
+use mathlib.Core.List.{[]}
+use Rattle.rules.specs.declared.Verdict.{Verdict}
+use Rattle.rules.specs.Refusals.{lineOf}
+use Rattle.rules.specs.Answers.{given, answer}
 use Rattle.rgb_to_nv_p16.proofs.answer_of.Statement.{statement}
 use Rattle.rgb_to_nv_p16.proofs.answer_of.Tie as tie
 
@@ -15,7 +18,7 @@ returns : tie.Need-returns
 returns c = search needs
 
 returns-2 : tie.Need-returns-2
-returns-2 c = sym (ap answer (c .before .verdict .given .1))
+returns-2 c = sym (ap (λ (v : Verdict). answer (lineOf v) (given [])) (c .before .verdict .given .1))
 
 pub answer-of-spec : {M : Type 1} → statement M
 answer-of-spec = tie.close (tie.spec enum-told enum-known-verdict returns returns-2)

@@ -1,8 +1,9 @@
 -- `rgb_to_nv_p16::convert` meets its contract, for every input. Assumes nothing.
 use borrow.Author.Needs.{needs}
-use mathlib.Core.Path.{sym, _∙_, subst}
+use mathlib.Core.Path.{sym, ap, _∙_, subst}
+use Rattle.rules.specs.Answers.{settledAnswer}
 use Rattle.settle.specs.Promised.{Promised}
-use Rattle.rgb_to_nv_p16.proofs.Verdicts.{refused, weighed}
+use Rattle.rgb_to_nv_p16.proofs.Verdicts.{refused-settings, weighed}
 use Rattle.rgb_to_nv_p16.proofs.convert.Statement.{statement}
 use Rattle.rgb_to_nv_p16.proofs.convert.Tie as tie
 
@@ -21,7 +22,7 @@ convert-settled-requires c κs = subst (Promised (c .before .before .before .bef
 returns : tie.Need-returns
 returns c =
     let v = c .before .before .before .before .before .before .before .args in
-    refused (v .s) (v .f) (v .source .now) (v .luma .now) (v .chroma .now) _ (sym (c .before .before .before .settle .ensures .0) ∙ c .before .settled .given .1)
+    refused-settings (v .s) (v .f) (v .source .now) (v .luma .now) (v .chroma .now) _ _ (sym (ap settledAnswer (c .before .settled .given .1)) ∙ c .before .before .before .settle .ensures .0)
 
 same-length : tie.Need-same-length
 same-length c = search needs
@@ -33,7 +34,7 @@ returns-2 : tie.Need-returns-2
 returns-2 c =
     let v = c .before .before .before .before .before .before .before .before .before .before .before .before .before .before .args in
     let e = c .before .before .before .before .convert-settled .ensures in
-    weighed (v .s) (v .f) (v .source .now) (v .luma .now) (v .chroma .now) _ (sym (c .before .before .before .before .before .before .before .before .before .before .settle .ensures .0) ∙ c .before .before .before .before .before .before .before .before .settled2 .given .1) (e .0) (e .1 .0) (e .1 .1)
+    weighed (v .s) (v .f) (v .source .now) (v .luma .now) (v .chroma .now) _ (sym (ap settledAnswer (c .before .before .before .before .before .before .before .before .settled2 .given .1)) ∙ c .before .before .before .before .before .before .before .before .before .before .settle .ensures .0) (e .0) (e .1 .0) (e .1 .1)
 
 pub convert-spec : {M : Type 1} → statement M
 convert-spec =

@@ -1,14 +1,16 @@
 -- `rgb_to_nv_p16::convert_settled` meets its contract. Assumes nothing.
 use borrow.Author.Needs.{needs}
 use mathlib.Core.Path.{ap, _∙_}
-use Rattle.rules.specs.declared.Verdict.{Verdict}
-use Rattle.rules.specs.Channels.{picture}
-use Rattle.rules.specs.Convert.{answer, kept, lumaWritten, chromaWritten}
+use mathlib.Core.List.{[]}
+use Rattle.rules.specs.Refusals.{Line}
+use Rattle.rules.specs.Answers.{given, answer}
+use Rattle.rules.specs.Frames.{shown}
+use Rattle.rules.specs.Convert.{kept, lumaWritten, chromaWritten}
 use Rattle.rgb_to_nv_p16.proofs.convert_settled.Statement.{statement}
 use Rattle.rgb_to_nv_p16.proofs.convert_settled.Tie as tie
 
-judge-requires : tie.Need-judge-requires
-judge-requires c κs = search needs
+frame-verdict-requires : tie.Need-frame-verdict-requires
+frame-verdict-requires c κs = search needs
 
 write-planes-requires : tie.Need-write-planes-requires
 write-planes-requires c κs = search needs
@@ -27,16 +29,16 @@ returns c =
     let j = c .before .before .before .before .before .before .before .before in
     let v = j .before .before .before .before .args in
     let p = c .before .before .before .before .before .write-planes in
-    let e = j .judge .ensures .0 in
-    let px = picture (v .s .channels) (v .f .«source_stride») (v .source .now) in (
-      c .answer-of .ensures ∙ ap answer e,
+    let e = j .frame-verdict .ensures .0 in
+    let px = shown (v .s) (v .f) (v .source .now) in (
+      c .answer-of .ensures ∙ ap (λ (l : Line). answer l (given [])) e,
       (
-        p .ensures .0 ∙ ap (λ (x : Verdict). kept x (lumaWritten (v .s) (v .w) (v .f) px (v .luma .now)) (v .luma .now)) e,
-        p .ensures .1 ∙ ap (λ (x : Verdict). kept x (chromaWritten (v .s) (v .w) (v .f) px (v .chroma .now)) (v .chroma .now)) e,
+        p .ensures .0 ∙ ap (λ (x : Line). kept x (lumaWritten (v .s) (v .w) (v .f) px (v .luma .now)) (v .luma .now)) e,
+        p .ensures .1 ∙ ap (λ (x : Line). kept x (chromaWritten (v .s) (v .w) (v .f) px (v .chroma .now)) (v .chroma .now)) e,
       ),
     )
 
 pub convert-settled-spec : {M : Type 1} → statement M
 convert-settled-spec =
     tie.close
-    (tie.spec judge-requires write-planes-requires answer-of-requires same-length same-length-2 returns)
+    (tie.spec frame-verdict-requires write-planes-requires answer-of-requires same-length same-length-2 returns)

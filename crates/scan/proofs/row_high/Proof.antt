@@ -1,61 +1,71 @@
--- `scan::row_high` meets its contract: nothing was found at the pixels passed. Assumes nothing.
-use mathlib.Core.Path.{_≡_, sym, ap, _∙_}
-use mathlib.Core.Bool.{Bool}
-use Prim.Native.Nat.{ℕ, _-_, _≤_, _<_}
+-- `scan::row_high` meets its contract: no sample that was passed exceeds m. Assumes nothing.
+use mathlib.Core.Path.{_≡_, refl, sym, ap, _∙_}
+use mathlib.Core.Bool.{Bool, true, false}
+use Prim.Native.Nat.{ℕ, _*_, _-_, _≤_, _<_}
 use native.Mathlib.Omega.{arith}
-use Rattle.rules.specs.declared.Search.the-variants.{Nothing}
-use Rattle.rules.specs.Frames.{firstBelow, highAt, isFound}
-use Rattle.plane_laws.proofs.Firsts.{none-yet, none-more, found-first}
-use Rattle.frames.specs.Rows.{rowPixel}
+use lib.Dec.{leb}
+use borrow.Author.Tests.{le-leb, lt-leb}
+use Rattle.rules.specs.declared.Search.{Search}
+use Rattle.rules.specs.declared.Search.the-variants.{Nothing, At}
+use Rattle.rules.specs.Search.{firstBelow, failing, isFound}
+use Rattle.plane_laws.proofs.Searches.{none-yet, none-more, found-first}
+use Rattle.scan.specs.Fours.{sampleOf}
 use Rattle.scan.proofs.row_high.Statement.{statement}
 use Rattle.scan.proofs.row_high.Tie as tie
 
 abbrev Inv-loop : tie.InvT-loop
-Inv-loop m channels width row part x₀ x = (x ≤ width) × (firstBelow x (λ i. highAt m row i (rowPixel channels part i)) ≡ Nothing)
+Inv-loop m channels width row part samples i₀ i = (i ≤ 3 * width) × (firstBelow i (λ n. failing (leb (sampleOf channels part n) m) row n) ≡ Nothing)
 
 abbrev μ-loop : tie.MeasureT-loop
-μ-loop m channels width row part x₀ x = width - x
+μ-loop m channels width row part samples i₀ i = 3 * width - i
 
--- the pixel of this turn lies in the row
-spot : (c : tie.In-loop Inv-loop μ-loop) → c .before .loop .x < c .before .before .before .args .width
-spot c = omega arith
+-- what is found at a sample of the row
+abbrev found : (a : tie.Start Inv-loop μ-loop) → ℕ → Search
+found a i = let v = a .args in failing (leb (sampleOf (v .channels) (v .part .now) i) (v .m)) (v .row) i
 
--- what was found at this pixel, said of the row part
-told : (c : tie.After-high-at Inv-loop μ-loop) → let v = c .before .before .before .before .before .args in let x = c .before .before .before .loop .x in c .high-at .result ≡ highAt (v .m) (v .row) x (rowPixel (v .channels) (v .part .now) x)
-told c = let v = c .before .before .before .before .before .args in c .high-at .ensures ∙ ap (highAt (v .m) (v .row) (c .before .before .before .loop .x)) (c .before .row-pixel .ensures)
+-- a sample that exceeds m is found, and no other
+high : (c : tie.Then1 Inv-loop μ-loop) → let i = c .before .before .before .loop .i in found (c .before .before .before .before .before) i ≡ At (c .before .before .before .before .before .args .row) i
+high c =
+    let v = c .before .before .before .before .before .args in
+    let e = lt-leb (sampleOf (v .channels) (v .part .now) (c .before .before .before .loop .i)) (v .m) (omega (arith, c .before .colour-sample .ensures, c .if1 .taken)) in
+    ap (λ (b : Bool). failing b (v .row) (c .before .before .before .loop .i)) e
 
-asked : (c : tie.After-is-found Inv-loop μ-loop) (t : Bool) → c .is-found .result ≡ t → let v = c .before .before .before .before .before .before .args in let x = c .before .before .before .before .loop .x in isFound (highAt (v .m) (v .row) x (rowPixel (v .channels) (v .part .now) x)) ≡ t
-asked c t h = sym (c .is-found .ensures ∙ ap isFound (told (c .before))) ∙ h
+low : (c : tie.Else1 Inv-loop μ-loop) → isFound (found (c .before .before .before .before .before) (c .before .before .before .loop .i)) ≡ false
+low c =
+    let v = c .before .before .before .before .before .args in
+    let e = le-leb (sampleOf (v .channels) (v .part .now) (c .before .before .before .loop .i)) (v .m) (omega (arith, c .before .colour-sample .ensures, c .if1 .left)) in
+    ap (λ (b : Bool). isFound (failing b (v .row) (c .before .before .before .loop .i))) e
+
+mul-samples : tie.Need-mul-samples Inv-loop μ-loop
+mul-samples c = omega (arith, c .before .pre .0)
 
 loop-holds : tie.Need-loop-holds Inv-loop μ-loop
 loop-holds c = (omega arith, none-yet _)
 
-row-pixel-requires : tie.Need-row-pixel-requires Inv-loop μ-loop
-row-pixel-requires c κs = (spot c, c .before .before .before .pre)
-
-high-at-requires : tie.Need-high-at-requires Inv-loop μ-loop
-high-at-requires c κs = tt
-
-is-found-requires : tie.Need-is-found-requires Inv-loop μ-loop
-is-found-requires c κs = tt
+colour-sample-requires : tie.Need-colour-sample-requires Inv-loop μ-loop
+colour-sample-requires c κs = (c .loop-test .taken, c .before .before .before .pre .1)
 
 returns : tie.Need-returns Inv-loop μ-loop
-returns c = told (c .before .before) ∙ sym (found-first _ _ (c .before .before .before .before .before .loop .x) (spot (c .before .before .before .before)) (c .before .before .before .before .before .loop .inv .1) (asked (c .before) _ (c .if1 .taken)))
+returns c =
+    let l = c .before .before .before .loop in
+    sym (found-first (found (c .before .before .before .before .before)) _ (l .i) (c .before .before .loop-test .taken) (l .inv .1) (ap isFound (high c)) ∙ high c)
 
-add-x : tie.Need-add-x Inv-loop μ-loop
-add-x c = omega arith
+add-i : tie.Need-add-i Inv-loop μ-loop
+add-i c = omega arith
 
 loop-less : tie.Need-loop-less Inv-loop μ-loop
 loop-less c = omega arith
 
 loop-again : tie.Need-loop-again Inv-loop μ-loop
-loop-again c = (omega arith, none-more _ (c .before .before .before .before .before .loop .x) (c .before .before .before .before .before .loop .inv .1) (asked (c .before) _ (c .if1 .left)))
+loop-again c =
+    let l = c .before .before .before .loop in
+    (omega (arith, c .before .before .loop-test .taken), none-more (found (c .before .before .before .before .before)) (l .i) (l .inv .1) (low c))
 
 returns-2 : tie.Need-returns-2 Inv-loop μ-loop
 returns-2 c =
-    let v = c .before .before .before .args in
-    let e : c .before .loop .x ≡ v .width = omega arith in
-    sym (ap (λ (n : ℕ). firstBelow n (λ i. highAt (v .m) (v .row) i (rowPixel (v .channels) (v .part .now) i))) (sym e) ∙ c .before .loop .inv .1)
+    let s = c .before .before .before in
+    let e : c .before .loop .i ≡ 3 * s .args .width = omega (arith, c .loop-test .left, c .before .loop .inv .0) in
+    sym (ap (λ (n : ℕ). firstBelow n (found s)) (sym e) ∙ c .before .loop .inv .1)
 
 pub row-high-spec : {M : Type 1} → statement M
 row-high-spec =
@@ -63,12 +73,11 @@ row-high-spec =
     (tie.spec
     Inv-loop
     μ-loop
+    mul-samples
     loop-holds
-    row-pixel-requires
-    high-at-requires
-    is-found-requires
+    colour-sample-requires
     returns
-    add-x
+    add-i
     loop-less
     loop-again
     returns-2)

@@ -2,20 +2,29 @@
 use borrow.Author.Needs.{needs}
 use mathlib.Core.Path.{_≡_, sym, ap, _∙_}
 use mathlib.Core.Bool.{Bool}
-use Prim.Native.Nat.{ℕ, _-_, _≤_}
+use Prim.Native.Nat.{ℕ, _*_, _/_, _%_, _-_, _≤_}
 use native.Mathlib.Omega.{arith}
+use lib.Dec.{leb}
+use Rattle.rules.specs.declared.Frame.{Frame}
+use Rattle.rules.specs.declared.Pixel.{Pixel}
 use Rattle.rules.specs.declared.Search.{Search}
 use Rattle.rules.specs.declared.Search.the-variants.{Nothing}
-use Rattle.rules.specs.Channels.{picture}
-use Rattle.rules.specs.Frames.{firstBelow, highAt, tooLargeAt, isFound}
-use Rattle.plane_laws.proofs.Firsts.{none-more, found-first, first-ext}
-use Rattle.scan.proofs.Lows.{all-low, rows-nothing, picture-nothing}
+use Rattle.rules.specs.Channels.{Picture, picture}
+use Rattle.rules.specs.Search.{firstBelow, failing, firstFailing, isFound}
+use Rattle.rules.specs.Frames.{channelOf, lowTest, tooLarge}
+use Rattle.plane_laws.proofs.Searches.{none-more, found-first, first-ext, clean-none}
+use Rattle.frames.specs.Rows.{LowPicture}
+use Rattle.scan.proofs.Lows.{all-low, rows-clean, picture-nothing}
 use Rattle.scan.proofs.too_large.Statement.{statement}
 use Rattle.scan.proofs.too_large.Tie as tie
 
+-- the first sample of a row of a picture that exceeds m
+abbrev searchRow : ℕ → Frame → Picture → ℕ → Search
+searchRow m f px row = firstBelow (3 * f .width) (λ i. failing (lowTest m px row i) row i)
+
 abbrev Inv-loop : tie.InvT-loop
 Inv-loop m channels f source width height row₀ row =
-    (row ≤ height) × (firstBelow row (λ i. firstBelow (f .width) (λ x. highAt m i x (picture channels (f .«source_stride») source i x))) ≡ Nothing)
+    (row ≤ height) × (firstBelow row (searchRow m f (picture channels (f .«source_stride») source)) ≡ Nothing)
 
 abbrev μ-loop : tie.MeasureT-loop
 μ-loop m channels f source width height row₀ row = height - row
@@ -24,7 +33,12 @@ abbrev μ-loop : tie.MeasureT-loop
 abbrev search-row : tie.Start Inv-loop μ-loop → ℕ → Search
 search-row a row =
     let v = a .args in
-    firstBelow (v .f .width) (λ x. highAt (v .m) row x (picture (v .channels) (v .f .«source_stride») (v .source .now) row x))
+    searchRow (v .m) (v .f) (picture (v .channels) (v .f .«source_stride») (v .source .now)) row
+
+-- nothing is found in rows that are low
+none-in : (m n : ℕ) (f : Frame) (px : Picture) → LowPicture m px (f .width) n → firstBelow n (searchRow m f px) ≡ Nothing
+unfolding firstFailing
+none-in m n f px l = clean-none (lowTest m px) (3 * f .width) n (rows-clean m (f .width) n px l)
 
 -- what was found in the row part, said of the source
 told : (c : tie.After-row-high Inv-loop μ-loop) → c .row-high .result ≡ search-row (c .before .before .before .before .before .before .before) (c .before .before .before .loop .row)
@@ -32,7 +46,7 @@ told c =
     let v = c .before .before .before .before .before .before .before .args in
     let row = c .before .before .before .loop .row in
     c .row-high .ensures
-    ∙ first-ext (v .f .width) _ _ (λ x h. ap (highAt (v .m) row x) (c .before .source-row .ensures .shows .same x h))
+    ∙ first-ext (3 * v .f .width) _ _ (λ i h. ap (λ (p : Pixel). failing (leb (channelOf (i % 3) p) (v .m)) row i) (c .before .source-row .ensures .shows .same (i / 3) (omega (arith, h))))
 
 asked : (c : tie.After-is-found Inv-loop μ-loop) (t : Bool) → c .is-found .result ≡ t → isFound (search-row (c .before .before .before .before .before .before .before .before) (c .before .before .before .before .loop .row)) ≡ t
 asked c t h = sym (c .is-found .ensures ∙ ap isFound (told (c .before))) ∙ h
@@ -46,19 +60,19 @@ rows-low-requires : tie.Need-rows-low-requires Inv-loop μ-loop
 rows-low-requires c κs = c .before .before .pre
 
 loop-holds : tie.Need-loop-holds Inv-loop μ-loop
-loop-holds c = (c .rows-low .ensures .0, rows-nothing _ _ _ _ (c .rows-low .ensures .1))
+loop-holds c = (c .rows-low .ensures .0, none-in _ _ (c .before .before .before .args .f) _ (c .rows-low .ensures .1))
 
 source-row-requires : tie.Need-source-row-requires Inv-loop μ-loop
 source-row-requires c κs = search needs
 
 row-high-requires : tie.Need-row-high-requires Inv-loop μ-loop
-row-high-requires c κs = omega (arith, c .source-row .ensures .long)
+row-high-requires c κs = (c .before .before .before .before .before .before .pre .0 .narrow, omega (arith, c .source-row .ensures .long))
 
 is-found-requires : tie.Need-is-found-requires Inv-loop μ-loop
 is-found-requires c κs = tt
 
 returns-2 : tie.Need-returns-2 Inv-loop μ-loop
-unfolding tooLargeAt
+unfolding tooLarge firstFailing
 returns-2 c = told (c .before .before) ∙ sym (found-first _ _ (c .before .before .before .before .before .loop .row) (c .before .before .before .before .loop-test .taken) (c .before .before .before .before .before .loop .inv .1) (asked (c .before) _ (c .if2 .taken)))
 
 add-row : tie.Need-add-row Inv-loop μ-loop
@@ -71,7 +85,7 @@ loop-again : tie.Need-loop-again Inv-loop μ-loop
 loop-again c = (omega arith, none-more _ (c .before .before .before .before .before .loop .row) (c .before .before .before .before .before .loop .inv .1) (asked (c .before) _ (c .if2 .left)))
 
 returns-3 : tie.Need-returns-3 Inv-loop μ-loop
-unfolding tooLargeAt
+unfolding tooLarge firstFailing
 returns-3 c =
     let s = c .before .before .before .before .before in
     let e : c .before .loop .row ≡ s .args .f .height = omega arith in

@@ -3,23 +3,25 @@ use borrow.Author.Needs.{needs}
 use mathlib.Core.Path.{_≡_, sym, ap, _∙_}
 use mathlib.Core.Bool.{Bool, true, false}
 use Rattle.rules.specs.declared.Settings.{Settings}
-use Rattle.rules.specs.declared.Settled.the-variants.{Weighed}
+use Rattle.rules.specs.declared.Weights.{Weights}
+use Rattle.rules.specs.declared.Refusal.the-variants.{Depth, Precision, CustomPair, WeightOff, CodeOutside}
 use Rattle.rules.specs.Matrices.{matrixOf}
 use Rattle.rules.specs.Weights.{weightsOf}
 use Rattle.rules.specs.Refusals.{outside}
+use Rattle.rules.specs.Answers.{given, weightValues}
 use Rattle.rules.specs.Settle.{pairOff, weightOff, someCodeOff}
-use Rattle.rule_laws.proofs.Refusals.{end, stop, skip, bounds}
+use Rattle.rule_laws.proofs.Refusals.{end, stopped, skipped, bounds}
 use Rattle.settle.proofs.Verdicts.{refused, weighed}
 use Rattle.settle.proofs.Weighed.{usable}
 use Rattle.settle.proofs.settle.Statement.{statement}
 use Rattle.settle.proofs.settle.Tie as tie
 
 -- what each test answered, as the rules have it
-depth : (c : tie.After-outside) (t : Bool) → c .outside .result ≡ t → outside 10 16 (c .before .args .s .depth) ≡ t
-depth c t h = sym (c .outside .ensures) ∙ h
+depth : (c : tie.After-depth-off) (t : Bool) → c .depth-off .result ≡ t → outside 10 16 (c .before .args .s .depth) ≡ t
+depth c t h = sym (c .depth-off .ensures) ∙ h
 
-precision : (c : tie.After-outside2) (t : Bool) → c .outside2 .result ≡ t → outside 1 13 (c .before .before .before .args .s .precision) ≡ t
-precision c t h = sym (c .outside2 .ensures) ∙ h
+precision : (c : tie.After-precision-off) (t : Bool) → c .precision-off .result ≡ t → outside 1 13 (c .before .before .before .args .s .precision) ≡ t
+precision c t h = sym (c .precision-off .ensures) ∙ h
 
 -- past the first two tests
 abbrev S : tie.Else2 → Settings
@@ -43,19 +45,19 @@ weight c t h =
 code : (c : tie.After-some-code-off) (t : Bool) → c .some-code-off .result ≡ t → let s = S (c .before .before .before .before .before .before .before) in someCodeOff s (weightsOf s) ≡ t
 code c t h = ap (someCodeOff (S (c .before .before .before .before .before .before .before))) (sym (c .before .before .before .weights-of .ensures .0)) ∙ sym (c .some-code-off .ensures) ∙ h
 
-outside-requires : tie.Need-outside-requires
-outside-requires c κs = search needs
+depth-off-requires : tie.Need-depth-off-requires
+depth-off-requires c κs = search needs
 
 returns : tie.Need-returns
-returns c = (refused (c .before .before .args .s) _ (stop _ _ (depth (c .before) true (c .if1 .taken))), tt)
+returns c = (refused (c .before .before .args .s) Depth (stopped _ _ _ (depth (c .before) true (c .if1 .taken))), tt)
 
-outside-requires-2 : tie.Need-outside-requires-2
-outside-requires-2 c κs = search needs
+precision-off-requires : tie.Need-precision-off-requires
+precision-off-requires c κs = search needs
 
 returns-2 : tie.Need-returns-2
 returns-2 c =
     let d = depth (c .before .before .before) false (c .before .before .if1 .left) in
-    (refused (c .before .before .before .before .args .s) _ (skip _ _ d ∙ stop _ _ (precision (c .before) true (c .if2 .taken))), tt)
+    (refused (c .before .before .before .before .args .s) Precision (skipped _ _ _ d ∙ stopped _ _ _ (precision (c .before) true (c .if2 .taken))), tt)
 
 matrix-of-requires : tie.Need-matrix-of-requires
 matrix-of-requires c κs = search needs
@@ -66,7 +68,7 @@ pair-off-requires c κs = search needs
 returns-3 : tie.Need-returns-3
 returns-3 c =
     let e = c .before .before .before in
-    (refused (S e) _ (skip _ _ (depth-in e) ∙ skip _ _ (precision-in e) ∙ stop _ _ (pair (c .before) true (c .if3 .taken))), tt)
+    (refused (S e) CustomPair (skipped _ _ _ (depth-in e) ∙ skipped _ _ _ (precision-in e) ∙ stopped _ _ _ (pair (c .before) true (c .if3 .taken))), tt)
 
 weights-of-requires : tie.Need-weights-of-requires
 weights-of-requires c κs =
@@ -84,7 +86,7 @@ returns-4 : tie.Need-returns-4
 returns-4 c =
     let e = c .before .before .before .before .before .before in
     let p = pair (c .before .before .before .before) false (c .before .before .before .if3 .left) in
-    (refused (S e) _ (skip _ _ (depth-in e) ∙ skip _ _ (precision-in e) ∙ skip _ _ p ∙ stop _ _ (weight (c .before) true (c .if4 .taken))), tt)
+    (refused (S e) WeightOff (skipped _ _ _ (depth-in e) ∙ skipped _ _ _ (precision-in e) ∙ skipped _ _ _ p ∙ stopped _ _ _ (weight (c .before) true (c .if4 .taken))), tt)
 
 some-code-off-requires : tie.Need-some-code-off-requires
 some-code-off-requires c κs =
@@ -98,7 +100,7 @@ returns-5 c =
     let e = c .before .before .before .before .before .before .before .before in
     let p = pair (c .before .before .before .before .before .before) false (c .before .before .before .before .before .if3 .left) in
     let w = weight (c .before .before .before) false (c .before .before .if4 .left) in
-    (refused (S e) _ (skip _ _ (depth-in e) ∙ skip _ _ (precision-in e) ∙ skip _ _ p ∙ skip _ _ w ∙ stop _ _ (code (c .before) true (c .if5 .taken))), tt)
+    (refused (S e) CodeOutside (skipped _ _ _ (depth-in e) ∙ skipped _ _ _ (precision-in e) ∙ skipped _ _ _ p ∙ skipped _ _ _ w ∙ stopped _ _ _ (code (c .before) true (c .if5 .taken))), tt)
 
 returns-6 : tie.Need-returns-6
 returns-6 c =
@@ -107,16 +109,16 @@ returns-6 c =
     let w = weight (c .before .before .before) false (c .before .before .if4 .left) in
     let o = code (c .before) false (c .if5 .left) in
     let n = c .before .before .before .before .weights-of in
-    let q = ap Weighed (n .ensures .0) ∙ weighed (S e) (skip _ _ (depth-in e) ∙ skip _ _ (precision-in e) ∙ skip _ _ p ∙ skip _ _ w ∙ skip _ _ o ∙ end) in
-    (q, usable (S e) (n .result) (n .ensures .1) (sym q))
+    let q = ap (λ (w : Weights). given (weightValues w)) (n .ensures .0) ∙ weighed (S e) (skipped _ _ _ (depth-in e) ∙ skipped _ _ _ (precision-in e) ∙ skipped _ _ _ p ∙ skipped _ _ _ w ∙ skipped _ _ _ o ∙ end) in
+    (q, usable (S e) (n .result) (n .ensures .1) q)
 
 pub settle-spec : {M : Type 1} → statement M
 settle-spec =
     tie.close
     (tie.spec
-    outside-requires
+    depth-off-requires
     returns
-    outside-requires-2
+    precision-off-requires
     returns-2
     matrix-of-requires
     pair-off-requires
