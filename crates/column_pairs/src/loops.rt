@@ -13,12 +13,12 @@ ghost use Rattle.last_column.specs.Columns.{evenColumns};
 ghost use Rattle.column_pairs.specs.Packed.{lumaPacked, chromaPacked};
 ghost use Rattle.column_pairs.specs.Pairs.{RowLengths, PairsWritten};
 use crate::store;
-use frames::channels;
+use blocks::mean;
+use frames::pixels;
 use joined_codes::lines;
 use rules::Settings;
 use rules::Weights;
 use rules::YuvSourceChannels;
-use blocks::mean;
 use yuv_support::channels::get_channels_count;
 
 // Luma alone.
@@ -34,8 +34,8 @@ pub(crate) fn luma_loop(s: Settings, w: Weights, width: usize, luma: &mut [u16],
     let mut x = 0;
     let mut i = 0;
     while i + 2 * n <= rgba.len() {
-        let p = channels::pixel_at(YuvSourceChannels::Rgb, rgba, i);
-        let q = channels::pixel_at(YuvSourceChannels::Rgb, rgba, i + n);
+        let p = pixels::pixel_at(YuvSourceChannels::Rgb, rgba, i);
+        let q = pixels::pixel_at(YuvSourceChannels::Rgb, rgba, i + n);
         store::put_luma(s, w, l, luma, x, p, q);
         x += 2;
         i += 2 * n;
@@ -62,8 +62,8 @@ pub(crate) fn single_loop(
     let mut x = 0;
     let mut i = 0;
     while i + 2 * n <= rgba.len() {
-        let p = channels::pixel_at(YuvSourceChannels::Rgb, rgba, i);
-        let q = channels::pixel_at(YuvSourceChannels::Rgb, rgba, i + n);
+        let p = pixels::pixel_at(YuvSourceChannels::Rgb, rgba, i);
+        let q = pixels::pixel_at(YuvSourceChannels::Rgb, rgba, i + n);
         store::put_luma(s, w, l, luma, x, p, q);
         store::put_pair(s, w, l, chroma, 2 * x, p);
         store::put_pair(s, w, l, chroma, 2 * x + 2, q);
@@ -92,8 +92,8 @@ pub(crate) fn paired_loop(
     let mut x = 0;
     let mut i = 0;
     while i + 2 * n <= rgba.len() {
-        let p = channels::pixel_at(YuvSourceChannels::Rgb, rgba, i);
-        let q = channels::pixel_at(YuvSourceChannels::Rgb, rgba, i + n);
+        let p = pixels::pixel_at(YuvSourceChannels::Rgb, rgba, i);
+        let q = pixels::pixel_at(YuvSourceChannels::Rgb, rgba, i + n);
         store::put_luma(s, w, l, luma, x, p, q);
         store::put_pair(s, w, l, chroma, x, mean::mean_of_two(p, q));
         x += 2;
@@ -124,11 +124,11 @@ pub(crate) fn block_loop(
     while pair < pairs {
         let x = 2 * pair;
         let i = x * n;
-        let p = channels::pixel_at(YuvSourceChannels::Rgb, upper, i);
-        let q = channels::pixel_at(YuvSourceChannels::Rgb, upper, i + n);
+        let p = pixels::pixel_at(YuvSourceChannels::Rgb, upper, i);
+        let q = pixels::pixel_at(YuvSourceChannels::Rgb, upper, i + n);
         store::put_luma(s, w, l, luma, x, p, q);
-        let u = channels::pixel_at(YuvSourceChannels::Rgb, lower, i);
-        let v = channels::pixel_at(YuvSourceChannels::Rgb, lower, i + n);
+        let u = pixels::pixel_at(YuvSourceChannels::Rgb, lower, i);
+        let v = pixels::pixel_at(YuvSourceChannels::Rgb, lower, i + n);
         store::put_pair(s, w, l, chroma, x, mean::mean_of_four(p, q, u, v));
         pair += 1;
     }

@@ -1,3 +1,3 @@
 // The rows of a source and their pixels: what converting and checking a frame share.
-pub mod channels;
+pub mod pixels;
 pub mod rows;

@@ -11,13 +11,13 @@ ghost use Rattle.plane_laws.specs.Rows.{Finished};
 ghost use Rattle.frames.specs.Rows.{rowPixel, Part};
 ghost use Rattle.last_column.specs.Words.{lumaWords, chromaWords};
 ghost use Rattle.last_column.specs.Columns.{evenColumns, elementsOver};
-use frames::channels;
+use blocks::mean;
+use frames::pixels;
 use rules::Pixel;
 use rules::Settings;
 use rules::Weights;
 use rules::YuvChromaSubsampling;
 use rules::YuvSourceChannels;
-use blocks::mean;
 use samples::word;
 
 // The luma of an odd last column.
@@ -32,7 +32,7 @@ pub fn last_luma(s: Settings, w: Weights, width: usize, luma: &mut [u16], rgba: 
         return;
     }
     let x = width - 1;
-    let p = channels::row_pixel(channels, rgba, width, x);
+    let p = pixels::row_pixel(channels, rgba, width, x);
     luma[x] = word::luma_word(s, w, p);
 }
 
@@ -61,9 +61,9 @@ fn column_mean(
     requires { ⌜ (width * count channels ≤ length (now upper)) × (width * count channels ≤ length (now lower)) ⌝ }
     ensures { λ p. ⌜ p ≡ averaged (tiles false two (rowPixel channels (now (upper .entry))) (rowPixel channels (now (lower .entry))) x) ⌝ }
 {
-    let p = channels::row_pixel(channels, upper, width, x);
+    let p = pixels::row_pixel(channels, upper, width, x);
     if two {
-        let u = channels::row_pixel(channels, lower, width, x);
+        let u = pixels::row_pixel(channels, lower, width, x);
         return mean::mean_of_two(p, u);
     }
     p

@@ -16,7 +16,7 @@ use crate::gauge::Shares;
 use crate::near;
 use fractions::Sums;
 use fractions::block;
-use frames::channels;
+use frames::pixels;
 use rules::YuvChromaSubsampling;
 use rules::YuvEndianness;
 use rules::YuvNVOrder;
@@ -62,7 +62,7 @@ fn ones(m: Ruler, width: usize, top: &[u16], chroma: &[u16]) -> usize
     let channels = m.channels;
     let mut pair = 0;
     while pair < width {
-        let p = channels::row_pixel(channels, top, width, pair);
+        let p = pixels::row_pixel(channels, top, width, pair);
         if !pair_near(m, block::sums_of_one(p), chroma, pair) {
             return pair;
         }
@@ -81,8 +81,8 @@ fn twos(m: Ruler, width: usize, top: &[u16], chroma: &[u16]) -> usize
     let pairs = width / 2;
     let mut pair = 0;
     while pair < pairs {
-        let p = channels::row_pixel(channels, top, width, 2 * pair);
-        let q = channels::row_pixel(channels, top, width, 2 * pair + 1);
+        let p = pixels::row_pixel(channels, top, width, 2 * pair);
+        let q = pixels::row_pixel(channels, top, width, 2 * pair + 1);
         if !pair_near(m, block::sums_of_two(p, q), chroma, pair) {
             return pair;
         }
@@ -102,10 +102,10 @@ fn fours(m: Ruler, width: usize, top: &[u16], low: &[u16], chroma: &[u16]) -> us
     let pairs = width / 2;
     let mut pair = 0;
     while pair < pairs {
-        let p = channels::row_pixel(channels, top, width, 2 * pair);
-        let q = channels::row_pixel(channels, top, width, 2 * pair + 1);
-        let u = channels::row_pixel(channels, low, width, 2 * pair);
-        let v = channels::row_pixel(channels, low, width, 2 * pair + 1);
+        let p = pixels::row_pixel(channels, top, width, 2 * pair);
+        let q = pixels::row_pixel(channels, top, width, 2 * pair + 1);
+        let u = pixels::row_pixel(channels, low, width, 2 * pair);
+        let v = pixels::row_pixel(channels, low, width, 2 * pair + 1);
         if !pair_near(m, block::sums_of_four(p, q, u, v), chroma, pair) {
             return pair;
         }

@@ -11,7 +11,7 @@ ghost use Rattle.row_check.specs.Prefixes.{Passed};
 use crate::gauge::Gauge;
 use crate::gauge::Shares;
 use crate::near;
-use frames::channels;
+use frames::pixels;
 use rules::YuvEndianness;
 use rules::YuvSourceChannels;
 
@@ -31,7 +31,7 @@ fn run(
 {
     let mut e = 0;
     while e < width {
-        let p = channels::row_pixel(channels, line, width, e);
+        let p = pixels::row_pixel(channels, line, width, e);
         if !near::luma_near(g, h, p, storage::exchanged(endianness, luma[e])) {
             return e;
         }

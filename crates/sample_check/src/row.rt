@@ -12,7 +12,7 @@ ghost use Rattle.sample_check.specs.Samples.{pixelRight, tileOf, element
 use crate::judge::Judge;
 use crate::sample;
 use crate::sample::Tile;
-use frames::channels;
+use frames::pixels;
 use rules::Named;
 use rules::Settings;
 use rules::YuvChromaSubsampling;
@@ -34,7 +34,7 @@ pub fn luma_at(
     ensures { λ r. ⌜ r ≡ pixelRight s k (rowPixel (s .channels) (now (line .entry)) e) (getD (now (luma .entry)) e 0) ⌝ }
 {
     let channels = s.channels;
-    let p = channels::row_pixel(channels, line, width, e);
+    let p = pixels::row_pixel(channels, line, width, e);
     sample::luma_right(s, k, j, p, luma[e])
 }
 

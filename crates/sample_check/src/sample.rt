@@ -16,7 +16,7 @@ use fractions::Sums;
 use fractions::block;
 use fractions::bound;
 use fractions::value;
-use frames::channels;
+use frames::pixels;
 use rules::Named;
 use rules::Pixel;
 use rules::Settings;
@@ -117,18 +117,18 @@ fn sums(channels: YuvSourceChannels, width: usize, top: &[u16], low: &[u16], t: 
     requires { ⌜ (width * count channels ≤ length (now top)) × (width * count channels ≤ length (now low)) ⌝ }
     ensures { λ r. ⌜ (r ≡ sumsOf (tiled channels (now (top .entry)) (now (low .entry)) t)) × UpToFour r ⌝ }
 {
-    let p = channels::row_pixel(channels, top, width, t.left);
+    let p = pixels::row_pixel(channels, top, width, t.left);
     if t.wide {
-        let q = channels::row_pixel(channels, top, width, t.left + 1);
+        let q = pixels::row_pixel(channels, top, width, t.left + 1);
         if t.two {
-            let u = channels::row_pixel(channels, low, width, t.left);
-            let v = channels::row_pixel(channels, low, width, t.left + 1);
+            let u = pixels::row_pixel(channels, low, width, t.left);
+            let v = pixels::row_pixel(channels, low, width, t.left + 1);
             return block::sums_of_four(p, q, u, v);
         }
         return block::sums_of_two(p, q);
     }
     if t.two {
-        return block::sums_of_two(p, channels::row_pixel(channels, low, width, t.left));
+        return block::sums_of_two(p, pixels::row_pixel(channels, low, width, t.left));
     }
     block::sums_of_one(p)
 }

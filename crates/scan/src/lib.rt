@@ -10,7 +10,7 @@ ghost use Rattle.frames.specs.Rows.{Rows, LowPicture};
 ghost use Rattle.scan.specs.Fours.{sampleOf, LowFour};
 ghost use Rattle.frames.specs.Tests.{Sized};
 
-use frames::channels;
+use frames::pixels;
 use frames::rows;
 use rules::Frame;
 use rules::Pixel;
@@ -44,7 +44,7 @@ fn colour_sample(channels: YuvSourceChannels, part: &[u16], width: usize, i: usi
     requires { ⌜ (i < 3 * width) × (width * count channels ≤ length (now part)) ⌝ }
     ensures { λ r. ⌜ r ≡ sampleOf channels (now (part .entry)) i ⌝ }
 {
-    channel_of(i % 3, channels::row_pixel(channels, part, width, i / 3))
+    channel_of(i % 3, pixels::row_pixel(channels, part, width, i / 3))
 }
 
 // The first colour sample of a row that exceeds m, by a row part that shows it.

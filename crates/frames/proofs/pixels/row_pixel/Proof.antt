@@ -1,4 +1,4 @@
--- `frames::channels::row_pixel` meets its contract. Assumes nothing.
+-- `frames::pixels::row_pixel` meets its contract. Assumes nothing.
 use borrow.Author.Needs.{needs}
 use mathlib.Core.Path.{ap, _∙_}
 use Prim.Native.Nat.{ℕ, _+_, _*_, _≤_}
@@ -6,8 +6,8 @@ use native.Mathlib.Omega.{arith}
 use lib.ListN.{length}
 use Rattle.rules.specs.Channels.{count, pixelAt}
 use Rattle.plane_laws.proofs.Tables.{step-le}
-use Rattle.frames.proofs.channels.row_pixel.Statement.{statement}
-use Rattle.frames.proofs.channels.row_pixel.Tie as tie
+use Rattle.frames.proofs.pixels.row_pixel.Statement.{statement}
+use Rattle.frames.proofs.pixels.row_pixel.Tie as tie
 
 -- the pixel lies in the part
 pixel-in : (c : tie.After-get-channels-count) → let v = c .before .before .args in v .x * c .get-channels-count .result + count (v .channels) ≤ length (v .row .now)

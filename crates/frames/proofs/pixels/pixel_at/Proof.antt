@@ -1,9 +1,9 @@
--- `frames::channels::pixel_at` meets its contract. Assumes nothing.
+-- `frames::pixels::pixel_at` meets its contract. Assumes nothing.
 use borrow.Author.Needs.{needs}
 use native.Mathlib.Omega.{arith}
 use Rattle.frames.proofs.Places.{places, same-pixel}
-use Rattle.frames.proofs.channels.pixel_at.Statement.{statement}
-use Rattle.frames.proofs.channels.pixel_at.Tie as tie
+use Rattle.frames.proofs.pixels.pixel_at.Statement.{statement}
+use Rattle.frames.proofs.pixels.pixel_at.Tie as tie
 
 get-r-channel-offset-requires : tie.Need-get-r-channel-offset-requires
 get-r-channel-offset-requires c κs = search needs
