@@ -23,7 +23,6 @@ use rules::Refusal;
 use rules::Settings;
 use rules::Settled;
 use rules::Verdict;
-use sample_check::judge;
 use settle::settle;
 use walks::Found;
 use yuv_support::matrices;
@@ -44,8 +43,8 @@ fn check_settled(
     requires { ⌜ (Rows (length (now luma)) (f .«luma_stride») (f .width) (f .height)) × (Rows (length (now chroma)) (f .«chroma_stride») (chromaWidth (s .subsampling) (f .width)) (chromaHeight (s .subsampling) (f .height))) ⌝ }
     ensures { λ r. ⌜ Judged s k f (picture (s .channels) (f .«source_stride») (now (source .entry))) (now (luma .entry)) (now (chroma .entry)) r ⌝ }
 {
-    let j = judge::judge_of(s, k);
-    let in_luma = walks::walk_luma(s, k, j, f, source, luma);
+    let limits = check_limits::limits_of(s, k);
+    let in_luma = walks::walk_luma(s, k, limits, f, source, luma);
     if let Found::At(row, element) = in_luma {
         let luma_place = Place {
             plane: 0,
@@ -54,7 +53,7 @@ fn check_settled(
         };
         return Checked::Wrong(luma_place);
     }
-    let in_chroma = walks::walk_chroma(s, k, j, f, source, chroma);
+    let in_chroma = walks::walk_chroma(s, k, limits, f, source, chroma);
     if let Found::At(row, element) = in_chroma {
         let chroma_place = Place {
             plane: 1,

@@ -1,5 +1,2 @@
-pub mod Prefixes
-pub mod Times
-pub mod Gauged
-pub mod Pairs
+pub mod Elements
 pub mod Runs

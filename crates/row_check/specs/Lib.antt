@@ -1,3 +1,1 @@
-pub mod Gauges
-pub mod Pairing
-pub mod Prefixes
+pub mod Rulers

@@ -1,7 +1,2 @@
-// The quick check of a whole row: how far it is surely right.
-mod chroma;
-mod formed;
-mod gauge;
-mod luma;
-mod near;
+// The quick check of a whole row: how far from its start all samples are surely right.
 pub mod passed;

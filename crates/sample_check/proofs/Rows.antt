@@ -2,15 +2,12 @@
 use mathlib.Core.Path.{_≡_, refl, sym, ap, _∙_}
 use mathlib.Core.Bool.{Bool, true, false}
 use mathlib.Core.List.{List}
-use Prim.Native.Nat.{ℕ, _+_, _/_, _<_, _≤_}
-use native.Mathlib.Omega.{arith}
+use Prim.Native.Nat.{ℕ, _/_, _<_}
 use Rattle.rules.specs.declared.Settings.{Settings}
 use Rattle.rules.specs.declared.Named.{Named}
 use Rattle.rules.specs.declared.Pixel.{Pixel}
 use Rattle.rules.specs.declared.YuvChromaSubsampling.{YuvChromaSubsampling}
-use Rattle.rules.specs.declared.YuvNVOrder.{YuvNVOrder}
-use Rattle.rules.specs.declared.YuvNVOrder.the-variants.{UV, VU}
-use Rattle.rules.specs.Channels.{uAt, vAt, isU}
+use Rattle.rules.specs.Channels.{isU}
 use Rattle.rules.specs.Blocks.{chromaWidth}
 use Rattle.blocks.specs.Tiles.{leftOf, wideAt, tiles}
 use Rattle.blocks.proofs.Tiles.{left-below, wide-below}
@@ -18,7 +15,7 @@ use Rattle.fractions.specs.declared.Sums.{Sums}
 use Rattle.fractions.specs.Sums.{sumsOf}
 use Rattle.frames.specs.Rows.{rowPixel}
 use Rattle.sample_check.specs.declared.sample.Tile.{Tile}
-use Rattle.sample_check.specs.Samples.{blockRight, Fitting, tiled, tileOf, elementRight}
+use Rattle.sample_check.specs.Samples.{blockRight, TileFits, tiled, tileOf, elementRight}
 
 -- the sums of pixels that are those of a block, by the cases that were taken
 pub summed : {a b : Bool} (a′ b′ : Bool) (t l : ℕ → Pixel) (x : ℕ) {r : Sums} {ps : List Pixel} → a ≡ a′ → b ≡ b′ → ps ≡ tiles a′ b′ t l x → r ≡ sumsOf ps → r ≡ sumsOf (tiles a b t l x)
@@ -30,19 +27,10 @@ pub same-tile : (s : YuvChromaSubsampling) (width : ℕ) (two : Bool) (pair : �
 same-tile s width two pair e f = λ i. record { left = e i; wide = (f ∙ ap (wideAt s width) e) i; two = two }
 
 -- lies in its row
-pub tile-fits : (s : YuvChromaSubsampling) (width : ℕ) (two : Bool) (e : ℕ) → e < chromaWidth s width → Fitting width (tileOf s width two (e / 2))
+pub tile-fits : (s : YuvChromaSubsampling) (width : ℕ) (two : Bool) (e : ℕ) → e < chromaWidth s width → TileFits width (tileOf s width two (e / 2))
 tile-fits s width two e h = record { inside = left-below s width e h; beside = wide-below s width (leftOf s (e / 2)) }
 
--- a U and a V are the first or the second of their pair
-pub u-low : (o : YuvNVOrder) → uAt o ≤ 1
-u-low UV = omega arith
-u-low VU = omega arith
-
-pub v-low : (o : YuvNVOrder) → vAt o ≤ 1
-v-low UV = omega arith
-v-low VU = omega arith
-
--- and its test is that of the element
+-- the test of a pair's block is that of the element
 pub element-is : (s : Settings) (k : Named) (width : ℕ) (two : Bool) (top low : List ℕ) (e v : ℕ) {u r : Bool} {t : Tile} →
     u ≡ isU (s .order) e → t ≡ tileOf (s .subsampling) width two (e / 2) → r ≡ blockRight s k u (tiled (s .channels) top low t) v →
     r ≡ elementRight s k width two (rowPixel (s .channels) top) (rowPixel (s .channels) low) e v

@@ -13,6 +13,7 @@ use Rattle.rules.specs.Fractions.{Fraction, exactLuma, halves}
 use Rattle.rules.specs.Check.{right}
 use Rattle.tolerance_laws.specs.Chroma.{ownK, exactChroma}
 use Rattle.blocks.specs.Tiles.{tiles}
+use Rattle.formed_rows.specs.Formed.{isFormed}
 use Rattle.fractions.specs.declared.Exact.{Exact}
 use Rattle.fractions.specs.declared.Sums.{Sums}
 use Rattle.fractions.specs.Exact.{fractionOf}
@@ -20,11 +21,11 @@ use Rattle.fractions.specs.Bound.{boundOf}
 use Rattle.fractions.specs.Sums.{sumsOf, lumaBy, ownSum, chromaBy}
 use Rattle.fractions.proofs.Passes.{judged}
 use Rattle.fractions.proofs.Values.{luma-of, chroma-of}
-use Rattle.sample_check.specs.declared.judge.Limit.{Limit}
-use Rattle.sample_check.specs.declared.judge.Judge.{Judge}
-use Rattle.sample_check.specs.Judging.{Judging}
-use Rattle.sample_check.specs.Samples.{isFormed, nearBy, rightBy, pixelRight, blockRight, ownLimit}
-use Rattle.sample_check.proofs.Limits.{own-sized}
+use Rattle.check_limits.specs.declared.Limit.{Limit}
+use Rattle.check_limits.specs.declared.SettingsLimits.{SettingsLimits}
+use Rattle.check_limits.specs.Limits.{LimitsOf, ownLimit}
+use Rattle.check_limits.proofs.Limits.{own-sized}
+use Rattle.sample_check.specs.Samples.{nearBy, rightBy, pixelRight, blockRight}
 
 -- a word is right by the fraction that an exact value stands for
 by-fraction : (s : Settings) (h v : ℕ) {bound : ℕ} (x : Exact) {g f : Fraction} → fractionOf x ≡ g → g ≡ f →
@@ -46,19 +47,19 @@ module _ (s : Settings) (bound : ℕ) (x : Exact) (v : ℕ) where
   pub formed : isFormed s v ≡ true → nearBy s bound x v ≡ rightBy s bound x v
   formed e = sym (ap (λ (b : Bool). b && nearBy s bound x v) e)
 
-module _ (s : Settings) (k : Named) (j : Judge) (h : Judging s k j) (v : ℕ) where
-  pub luma-judged : (p : Pixel) (x : Exact) → fractionOf x ≡ lumaBy k (j .ranges .«bias_y») (j .ranges .«range_y») (j .luma .under) (sumsOf (p ∷ [])) →
-      rightBy s (j .luma .bound) x v ≡ pixelRight s k p v
+module _ (s : Settings) (k : Named) (limits : SettingsLimits) (h : LimitsOf s k limits) (v : ℕ) where
+  pub luma-judged : (p : Pixel) (x : Exact) → fractionOf x ≡ lumaBy k (limits .ranges .«bias_y») (limits .ranges .«range_y») (limits .luma .under) (sumsOf (p ∷ [])) →
+      rightBy s (limits .luma .bound) x v ≡ pixelRight s k p v
   luma-judged p x e =
       let m = most (s .depth) in
       by-fraction s 1 v x e
-      (luma-of k m (j .ranges .«bias_y») (j .ranges .«range_y») (p ∷ []) (h .luma .divisor)
+      (luma-of k m (limits .ranges .«bias_y») (limits .ranges .«range_y») (p ∷ []) (h .luma .divisor)
       ∙ (λ i. exactLuma k m (h .ranges i .«bias_y») (h .ranges i .«range_y») (p ∷ [])))
       (h .luma .bound)
 
   pub chroma-judged : (u a b : Bool) (t l : ℕ → Pixel) (x : ℕ) {q : Limit} {z : Sums} (e : Exact) →
-      q ≡ ownLimit j u a b → z ≡ sumsOf (tiles a b t l x) →
-      fractionOf e ≡ chromaBy k (j .ranges .«bias_uv») (j .ranges .«range_uv») (q .under) (ownSum u z) z →
+      q ≡ ownLimit limits u a b → z ≡ sumsOf (tiles a b t l x) →
+      fractionOf e ≡ chromaBy k (limits .ranges .«bias_uv») (limits .ranges .«range_uv») (q .under) (ownSum u z) z →
       rightBy s (q .bound) e v ≡ blockRight s k u (tiles a b t l x) v
   unfolding blockRight
   chroma-judged u a b t l x {q} y f g e =
@@ -66,6 +67,6 @@ module _ (s : Settings) (k : Named) (j : Judge) (h : Judging s k j) (v : ℕ) wh
       let n = own-sized h u a b t l x in
       let w = tiles a b t l x in
       by-fraction s (halves w) v y e
-      (chroma-of u k m (j .ranges .«bias_uv») (j .ranges .«range_uv») w g (ap (λ (o : Limit). o .under) f ∙ n .divisor)
+      (chroma-of u k m (limits .ranges .«bias_uv») (limits .ranges .«range_uv») w g (ap (λ (o : Limit). o .under) f ∙ n .divisor)
       ∙ (λ i. exactChroma u k m (h .ranges i .«bias_uv») (h .ranges i .«range_uv») w))
       (ap (λ (o : Limit). o .bound) f ∙ n .bound ∙ ap (boundOf (s .precision) m (halves w)) (chroma-under u k m (biasUV (s .depth)) (rangeUV (s .range) (s .depth)) w))

@@ -2,10 +2,10 @@
 -- Definitions and statements only.
 use Prim.Native.Nat.{ℕ, _+_, _/_, _<_}
 use mathlib.Core.Path.{_≡_}
-use mathlib.Core.Bool.{Bool, true, false, _&&_, cond}
+use mathlib.Core.Bool.{Bool, true, _&&_}
 use mathlib.Core.List.{List, [], _∷_}
 use lib.Dec.{leb}
-use lib.ListN.{length, getD}
+use lib.ListN.{getD}
 use Rattle.rules.specs.declared.Settings.{Settings}
 use Rattle.rules.specs.declared.Named.{Named}
 use Rattle.rules.specs.declared.Pixel.{Pixel}
@@ -13,32 +13,22 @@ use Rattle.rules.specs.declared.YuvChromaSubsampling.{YuvChromaSubsampling}
 use Rattle.rules.specs.declared.YuvSourceChannels.{YuvSourceChannels}
 use Rattle.rules.specs.Ranges.{most, biasY, biasUV, rangeY, rangeUV}
 use Rattle.rules.specs.Channels.{isU}
-use Rattle.rules.specs.Storage.{wellFormed, stored}
+use Rattle.rules.specs.Storage.{stored}
 use Rattle.rules.specs.Fractions.{exactLuma, halves}
 use Rattle.rules.specs.Check.{right}
 use Rattle.tolerance_laws.specs.Chroma.{exactChroma}
 use Rattle.blocks.specs.Tiles.{leftOf, wideAt, tiles}
+use Rattle.formed_rows.specs.Formed.{isFormed}
 use Rattle.fractions.specs.declared.Exact.{Exact}
 use Rattle.fractions.specs.Bound.{distance}
 use Rattle.frames.specs.Rows.{rowPixel}
-use Rattle.sample_check.specs.declared.judge.Limit.{Limit}
-use Rattle.sample_check.specs.declared.judge.Limits.{Limits}
-use Rattle.sample_check.specs.declared.judge.Judge.{Judge}
 use Rattle.sample_check.specs.declared.sample.Tile.{Tile}
-
--- a word is well formed
-abbrev pub isFormed : Settings → ℕ → Bool
-isFormed s v = wellFormed (s .packing) (s .endianness) (s .depth) v
-
--- all words of a row part are
-pub record AllFormed (s : Settings) (part : List ℕ) : Type 0 where
-  pub each : (e : ℕ) → e < length part → isFormed s (getD part e 0) ≡ true
 
 -- the code of a word is within a bound of an exact value
 abbrev pub nearBy : Settings → ℕ → Exact → ℕ → Bool
 nearBy s bound x v = leb (distance x (stored (s .packing) (s .endianness) (s .depth) v)) bound
 
--- both
+-- a word is well formed, and its code within a bound of an exact value
 abbrev pub rightBy : Settings → ℕ → Exact → ℕ → Bool
 rightBy s bound x v = isFormed s v && nearBy s bound x v
 
@@ -50,20 +40,10 @@ pixelRight s k p v = right s 1 (exactLuma k (most (s .depth)) (biasY (s .range) 
 unfoldable pub blockRight : Settings → Named → Bool → List Pixel → ℕ → Bool
 blockRight s k u b v = right s (halves b) (exactChroma u k (most (s .depth)) (biasUV (s .depth)) (rangeUV (s .range) (s .depth)) b) v
 
--- ---- by cases of a block
-
--- the limit of a block by whether it has two columns, and two rows
-abbrev pub limitFor : Limits → Bool → Bool → Limit
-limitFor l false false = l .one
-limitFor l true false = l .two
-limitFor l false true = l .two
-limitFor l true true = l .four
-
-abbrev pub ownLimit : Judge → Bool → Bool → Bool → Limit
-ownLimit j u wide two = cond u (limitFor (j .cb) wide two) (limitFor (j .cr) wide two)
+-- ---- blocks of a row
 
 -- a block's columns lie in a row
-pub record Fitting (width : ℕ) (t : Tile) : Type 0 where
+pub record TileFits (width : ℕ) (t : Tile) : Type 0 where
   pub inside : t .left < width
   pub beside : t .wide ≡ true → t .left + 1 < width
 
@@ -80,3 +60,11 @@ unfoldable pub elementRight : Settings → Named → ℕ → Bool → (ℕ → P
 elementRight s k width two top low e v =
     let x = leftOf (s .subsampling) (e / 2) in
     blockRight s k (isU (s .order) e) (tiles (wideAt (s .subsampling) width x) two top low x) v
+
+-- element e of a luma row is right, by its source row
+abbrev pub lumaElementRight : Settings → Named → List ℕ → List ℕ → ℕ → Bool
+lumaElementRight s k pixels luma e = pixelRight s k (rowPixel (s .channels) pixels e) (getD luma e 0)
+
+-- element e of a chroma row is right, by the source rows of its blocks
+abbrev pub chromaElementRight : Settings → Named → ℕ → Bool → List ℕ → List ℕ → List ℕ → ℕ → Bool
+chromaElementRight s k width two top low chroma e = elementRight s k width two (rowPixel (s .channels) top) (rowPixel (s .channels) low) e (getD chroma e 0)

@@ -1,4 +1,3 @@
-// The check of one element of a plane: what is worked out once for the settings, and the test of a sample by its exact fraction.
-pub mod judge;
+// The check of one element of a plane: the test of a sample by its exact fraction.
 pub mod row;
 pub mod sample;

@@ -6,11 +6,9 @@ ghost use Rattle.rules.specs.Channels.{count};
 ghost use Rattle.rule_laws.specs.Usable.{Reach};
 ghost use Rattle.fractions.specs.Exact.{Small, Exactly};
 ghost use Rattle.fractions.specs.Sums.{sumsOf, ownSum, chromaBy, UpToFour, Modest};
-ghost use Rattle.sample_check.specs.Judging.{Judging};
-ghost use Rattle.sample_check.specs.Samples.{nearBy, rightBy, pixelRight, blockRight, limitFor, ownLimit, Fitting, tiled};
-use crate::judge::Judge;
-use crate::judge::Limit;
-use crate::judge::Limits;
+ghost use Rattle.check_limits.specs.Limits.{LimitsOf};
+ghost use Rattle.sample_check.specs.Samples.{nearBy, rightBy, pixelRight, blockRight, TileFits, tiled};
+use check_limits::SettingsLimits;
 use fractions::Exact;
 use fractions::Sums;
 use fractions::block;
@@ -40,7 +38,7 @@ fn near_by(s: Settings, bound: u64, x: Exact, v: u16) -> bool
     bound::within_bound(bound, x, storage::stored(packing, endianness, s.depth, v))
 }
 
-// Whether a word is well formed, and its code within a bound of an exact value.
+// Whether a word is well formed and its code within a bound of an exact value.
 fn right_by(s: Settings, bound: u64, x: Exact, v: u16) -> bool
     requires { ⌜ Reach s ⌝ }
     requires { ⌜ (Small x) × (bound ≤ 60000000000000000) ⌝ }
@@ -55,50 +53,18 @@ fn right_by(s: Settings, bound: u64, x: Exact, v: u16) -> bool
 }
 
 // Whether a word is right as the luma of a pixel.
-pub fn luma_right(s: Settings, k: Named, j: Judge, p: Pixel, v: u16) -> bool
+pub fn luma_right(s: Settings, k: Named, limits: SettingsLimits, p: Pixel, v: u16) -> bool
     requires { ⌜ Reach s ⌝ }
-    requires { ⌜ Judging s k j ⌝ }
+    requires { ⌜ LimitsOf s k limits ⌝ }
     ensures { λ r. ⌜ r ≡ pixelRight s k p v ⌝ }
 {
-    let g = j.ranges;
-    let l = j.luma;
+    let g = limits.ranges;
+    let l = limits.luma;
     let x = value::exact_luma(k, g.bias_y, g.range_y, l.under, p);
     right_by(s, l.bound, x, v)
 }
 
-// The limit of a block by the number of its pixels.
-fn limit_for(l: Limits, t: Tile) -> Limit
-    ensures { λ r. ⌜ r ≡ limitFor l (t .wide) (t .two) ⌝ }
-{
-    let one = l.one;
-    let two = l.two;
-    let four = l.four;
-    if t.wide {
-        if t.two {
-            return four;
-        }
-        return two;
-    }
-    if t.two {
-        return two;
-    }
-    one
-}
-
-// Cb's limits for a U, Cr's for a V.
-pub fn own_limit(j: Judge, u: bool, t: Tile) -> Limit
-    ensures { λ r. ⌜ r ≡ ownLimit j u (t .wide) (t .two) ⌝ }
-{
-    let cb = j.cb;
-    let cr = j.cr;
-    if u {
-        limit_for(cb, t)
-    } else {
-        limit_for(cr, t)
-    }
-}
-
-// The exact Cb of a U, the exact Cr of a V.
+// The exact Cb of a block where `u` is true, its exact Cr where it is false.
 fn exact_chroma(u: bool, k: Named, bias: u32, range: u32, under: u64, b: Sums) -> Exact
     requires { ⌜ Modest k bias range under ⌝ }
     requires { ⌜ UpToFour b ⌝ }
@@ -113,7 +79,7 @@ fn exact_chroma(u: bool, k: Named, bias: u32, range: u32, under: u64, b: Sums) -
 
 // The channel sums of a block, from one or two row parts of the source.
 fn sums(channels: YuvSourceChannels, width: usize, top: &[u16], low: &[u16], t: Tile) -> Sums
-    requires { ⌜ Fitting width t ⌝ }
+    requires { ⌜ TileFits width t ⌝ }
     requires { ⌜ (width * count channels ≤ length (now top)) × (width * count channels ≤ length (now low)) ⌝ }
     ensures { λ r. ⌜ (r ≡ sumsOf (tiled channels (now (top .entry)) (now (low .entry)) t)) × UpToFour r ⌝ }
 {
@@ -133,11 +99,11 @@ fn sums(channels: YuvSourceChannels, width: usize, top: &[u16], low: &[u16], t: 
     block::sums_of_one(p)
 }
 
-// Whether a word is right as the Cb or the Cr of a block.
+// Whether a word is right as the Cb of a block where `u` is true, as its Cr where it is false.
 pub fn chroma_right(
     s: Settings,
     k: Named,
-    j: Judge,
+    limits: SettingsLimits,
     u: bool,
     width: usize,
     top: &[u16],
@@ -146,15 +112,15 @@ pub fn chroma_right(
     v: u16,
 ) -> bool
     requires { ⌜ Reach s ⌝ }
-    requires { ⌜ Judging s k j ⌝ }
-    requires { ⌜ Fitting width t ⌝ }
+    requires { ⌜ LimitsOf s k limits ⌝ }
+    requires { ⌜ TileFits width t ⌝ }
     requires { ⌜ (width * count (s .channels) ≤ length (now top)) × (width * count (s .channels) ≤ length (now low)) ⌝ }
     ensures { λ r. ⌜ r ≡ blockRight s k u (tiled (s .channels) (now (top .entry)) (now (low .entry)) t) v ⌝ }
 {
     let channels = s.channels;
     let b = sums(channels, width, top, low, t);
-    let g = j.ranges;
-    let limit = own_limit(j, u, t);
+    let g = limits.ranges;
+    let limit = check_limits::own_limit(limits, u, t.wide, t.two);
     let x = exact_chroma(u, k, g.bias_uv, g.range_uv, limit.under, b);
     right_by(s, limit.bound, x, v)
 }

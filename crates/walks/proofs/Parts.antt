@@ -19,13 +19,13 @@ use Rattle.frames.specs.Rows.{Rows, rowPixel, Shows}
 use Rattle.frames.specs.SourceRows.{SourceRow}
 use Rattle.sample_check.specs.Samples.{pixelRight, blockRight, elementRight}
 
--- n elements from row × stride on lie in a buffer whose bytes a usize counts
-pub record Part (long stride row n : ℕ) : Type 0 where
+-- n elements from row × stride on lie inside a buffer, whose bytes a usize counts
+pub record RowInside (long stride row n : ℕ) : Type 0 where
   pub end : row * stride + n ≤ long
   pub counted : long * 2 ≤ 18446744073709551615
 
-pub part-of : {long stride wide rows row n : ℕ} → Rows long stride wide rows → long * 2 ≤ 18446744073709551615 → row < rows → n ≡ wide → Part long stride row n
-part-of {long} {stride} {row = row} r h b e = record { end = subst (λ (m : ℕ). row * stride + m ≤ long) (sym e) (r .fits row b); counted = h }
+pub row-inside : {long stride wide rows row n : ℕ} → Rows long stride wide rows → long * 2 ≤ 18446744073709551615 → row < rows → n ≡ wide → RowInside long stride row n
+row-inside {long} {stride} {row = row} r h b e = record { end = subst (λ (m : ℕ). row * stride + m ≤ long) (sym e) (r .fits row b); counted = h }
 
 -- n elements from a on, as the borrow checker has a part that is lent
 abbrev pub part : List ℕ → ℕ → ℕ → List ℕ
@@ -39,10 +39,10 @@ part-at xs a n e h = getD-take (a + n - a) (drop a xs) e 0 (omega arith) ∙ get
 
 -- ---- a row of luma
 module _ (s : Settings) (k : Named) (f : Frame) (source luma : List ℕ) where
-  pub luma-shown : (row e : ℕ) (line : List ℕ) {r : Bool} → SourceRow (s .channels) f source row line → e < f .width →
-      r ≡ pixelRight s k (rowPixel (s .channels) line e) (getD (part luma (row * f .«luma_stride») (f .width)) e 0) →
+  pub luma-shown : (row e : ℕ) (pixels : List ℕ) {r : Bool} → SourceRow (s .channels) f source row pixels → e < f .width →
+      r ≡ pixelRight s k (rowPixel (s .channels) pixels e) (getD (part luma (row * f .«luma_stride») (f .width)) e 0) →
       r ≡ lumaTest s k f (picture (s .channels) (f .«source_stride») source) luma row e
-  luma-shown row e line p h g =
+  luma-shown row e pixels p h g =
       let v = part-at luma (row * f .«luma_stride») (f .width) e h in
       g ∙ λ i. pixelRight s k (p .shows .same e h i) (v i)
 

@@ -1,20 +1,19 @@
 // The walks through the two planes, row by row and element by element, each left at the first wrong sample.
 ghost use Prim.Native.Nat.{_*_};
 ghost use lib.ListN.{length};
-ghost use Rattle.rules.specs.Channels.{count, picture};
+ghost use Rattle.rules.specs.Channels.{count};
 ghost use Rattle.rules.specs.Blocks.{chromaWidth, chromaHeight};
-ghost use Rattle.rules.specs.Check.{lumaTest, chromaTest};
 ghost use Rattle.rule_laws.specs.Usable.{Reach};
 ghost use Rattle.frames.specs.Rows.{Rows};
 ghost use Rattle.frames.specs.Tests.{Sized};
-ghost use Rattle.sample_check.specs.Judging.{Judging};
-ghost use Rattle.walks.specs.Walks.{Finds};
+ghost use Rattle.check_limits.specs.Limits.{LimitsOf};
+ghost use Rattle.walks.specs.Walks.{FindsInLuma, FindsInChroma};
+use check_limits::SettingsLimits;
 use frames::rows;
 use row_check::passed;
 use rules::Frame;
 use rules::Named;
 use rules::Settings;
-use sample_check::judge::Judge;
 use sample_check::row;
 
 // What a walk yields: nothing wrong, or the row and the element of the first wrong sample.
@@ -24,12 +23,19 @@ pub enum Found {
 }
 
 // Through luma: each element is judged by the pixel of its column.
-pub fn walk_luma(s: Settings, k: Named, j: Judge, f: Frame, source: &[u16], luma: &[u16]) -> Found
-    requires { ⌜ (Reach s) × (Judging s k j) ⌝ }
+pub fn walk_luma(
+    s: Settings,
+    k: Named,
+    limits: SettingsLimits,
+    f: Frame,
+    source: &[u16],
+    luma: &[u16],
+) -> Found
+    requires { ⌜ (Reach s) × (LimitsOf s k limits) ⌝ }
     requires { ⌜ Sized f ⌝ }
     requires { ⌜ Rows (length (now source)) (f .«source_stride») (f .width * count (s .channels)) (f .height) ⌝ }
     requires { ⌜ Rows (length (now luma)) (f .«luma_stride») (f .width) (f .height) ⌝ }
-    ensures { λ r. ⌜ Finds (lumaTest s k f (picture (s .channels) (f .«source_stride») (now (source .entry))) (now (luma .entry))) (f .width) (f .height) r ⌝ }
+    ensures { λ r. ⌜ FindsInLuma s k f (now (source .entry)) (now (luma .entry)) r ⌝ }
 {
     let channels = s.channels;
     let width = f.width;
@@ -40,13 +46,13 @@ pub fn walk_luma(s: Settings, k: Named, j: Judge, f: Frame, source: &[u16], luma
         if row == height {
             break 'walk Found::Nothing;
         }
-        let line = rows::source_row(channels, f, source, row);
+        let pixels = rows::source_row(channels, f, source, row);
         let from = row * stride;
         let to = from + width;
         let samples = &luma[from..to];
-        let passed = passed::luma_passed(s, k, j, width, line, samples);
+        let passed = passed::luma_passed(s, k, limits, width, pixels, samples);
         for column in passed..width {
-            if !row::luma_at(s, k, j, width, line, samples, column) {
+            if !row::luma_at(s, k, limits, width, pixels, samples, column) {
                 break 'walk Found::At(row, column);
             }
         }
@@ -58,16 +64,16 @@ pub fn walk_luma(s: Settings, k: Named, j: Judge, f: Frame, source: &[u16], luma
 pub fn walk_chroma(
     s: Settings,
     k: Named,
-    j: Judge,
+    limits: SettingsLimits,
     f: Frame,
     source: &[u16],
     chroma: &[u16],
 ) -> Found
-    requires { ⌜ (Reach s) × (Judging s k j) ⌝ }
+    requires { ⌜ (Reach s) × (LimitsOf s k limits) ⌝ }
     requires { ⌜ Sized f ⌝ }
     requires { ⌜ Rows (length (now source)) (f .«source_stride») (f .width * count (s .channels)) (f .height) ⌝ }
     requires { ⌜ Rows (length (now chroma)) (f .«chroma_stride») (chromaWidth (s .subsampling) (f .width)) (chromaHeight (s .subsampling) (f .height)) ⌝ }
-    ensures { λ r. ⌜ Finds (chromaTest s k f (picture (s .channels) (f .«source_stride») (now (source .entry))) (now (chroma .entry))) (chromaWidth (s .subsampling) (f .width)) (chromaHeight (s .subsampling) (f .height)) r ⌝ }
+    ensures { λ r. ⌜ FindsInChroma s k f (now (source .entry)) (now (chroma .entry)) r ⌝ }
 {
     let channels = s.channels;
     let subsampling = s.subsampling;
@@ -88,9 +94,9 @@ pub fn walk_chroma(
         let from = row * stride;
         let to = from + wide;
         let samples = &chroma[from..to];
-        let passed = passed::chroma_passed(s, k, j, width, two, top, low, samples);
+        let passed = passed::chroma_passed(s, k, limits, width, two, top, low, samples);
         for element in passed..wide {
-            if !row::chroma_at(s, k, j, width, two, top, low, samples, element) {
+            if !row::chroma_at(s, k, limits, width, two, top, low, samples, element) {
                 break 'walk Found::At(row, element);
             }
         }

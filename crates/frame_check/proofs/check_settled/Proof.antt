@@ -4,8 +4,8 @@ use Rattle.walks.proofs.Walked.{found-nothing, found-at}
 use Rattle.frame_check.proofs.check_settled.Statement.{statement}
 use Rattle.frame_check.proofs.check_settled.Tie as tie
 
-judge-of-requires : tie.Need-judge-of-requires
-judge-of-requires c κs = search needs
+limits-of-requires : tie.Need-limits-of-requires
+limits-of-requires c κs = search needs
 
 walk-luma-requires : tie.Need-walk-luma-requires
 walk-luma-requires c κs = search needs
@@ -23,7 +23,7 @@ walk-chroma-requires : tie.Need-walk-chroma-requires
 walk-chroma-requires c κs =
     let j = c .before .before .before in
     let b = j .before .before .before .before in
-    ((b .pre .0, j .judge-of .ensures), (b .pre .1 .1 .0, (b .pre .1 .1 .1 .0, b .pre .1 .1 .1 .1 .1)))
+    ((b .pre .0, j .limits-of .ensures), (b .pre .1 .1 .0, (b .pre .1 .1 .1 .0, b .pre .1 .1 .1 .1 .1)))
 
 enum-known-in-chroma : tie.Need-enum-known-in-chroma
 enum-known-in-chroma c = search needs
@@ -48,7 +48,7 @@ pub check-settled-spec : {M : Type 1} → statement M
 check-settled-spec =
     tie.close
     (tie.spec
-    judge-of-requires
+    limits-of-requires
     walk-luma-requires
     enum-known-in-luma
     returns

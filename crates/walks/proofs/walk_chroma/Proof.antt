@@ -15,24 +15,24 @@ use Rattle.blocks.proofs.Tiles.{height-small, top-below, two-below, second-belo
 use Rattle.frames.specs.Rows.{rowPixel}
 use Rattle.sample_check.specs.Samples.{elementRight}
 use Rattle.walks.proofs.Walked.{CleanRow, row-more, clean-none, clean-more, clean-all, first-wrong}
-use Rattle.walks.proofs.Parts.{Part, part-of, part, part-long, chroma-shown}
+use Rattle.walks.proofs.Parts.{RowInside, row-inside, part, part-long, chroma-shown}
 use Rattle.walks.proofs.walk_chroma.Statement.{statement}
 use Rattle.walks.proofs.walk_chroma.Tie as tie
 
 abbrev Inv-loop : tie.InvT-loop
-Inv-loop s k j f source chroma channels subsampling width height stride wide rows row t two top low from to samples passed element₀ element =
+Inv-loop s k limits f source chroma channels subsampling width height stride wide rows row t two top low from to samples passed element₀ element =
     (element ≤ chromaWidth (s .subsampling) (f .width)) × CleanRow (chromaTest s k f (picture (s .channels) (f .«source_stride») source) chroma) row element
 
 abbrev μ-loop : tie.MeasureT-loop
-μ-loop s k j f source chroma channels subsampling width height stride wide rows row t two top low from to samples passed element₀ element =
+μ-loop s k limits f source chroma channels subsampling width height stride wide rows row t two top low from to samples passed element₀ element =
     chromaWidth (s .subsampling) (f .width) - element
 
 abbrev Inv-walk : tie.InvT-walk
-Inv-walk s k j f source chroma channels subsampling width height stride wide rows row₀ row =
+Inv-walk s k limits f source chroma channels subsampling width height stride wide rows row₀ row =
     (row ≤ chromaHeight (s .subsampling) (f .height)) × Clean (chromaTest s k f (picture (s .channels) (f .«source_stride») source) chroma) (chromaWidth (s .subsampling) (f .width)) row
 
 abbrev μ-walk : tie.MeasureT-walk
-μ-walk s k j f source chroma channels subsampling width height stride wide rows row₀ row = chromaHeight (s .subsampling) (f .height) - row
+μ-walk s k limits f source chroma channels subsampling width height stride wide rows row₀ row = chromaHeight (s .subsampling) (f .height) - row
 
 -- the bytes of the plane are counted by a usize
 chroma-counted : (c : tie.After-shared-slice-known2 Inv-loop μ-loop Inv-walk μ-walk) → length (c .before .before .args .chroma .now) * 2 ≤ 18446744073709551615
@@ -56,10 +56,10 @@ low-in c =
 
 -- where this turn's row of the plane lies
 samples-part : (c : tie.Else1 Inv-loop μ-loop Inv-walk μ-walk) → let w = c .before .before .before in let a = w .before .before .before .args in
-    Part (length (a .chroma .now)) (a .f .«chroma_stride») (c .before .walk .row) (w .chroma-width .result)
+    RowInside (length (a .chroma .now)) (a .f .«chroma_stride») (c .before .walk .row) (w .chroma-width .result)
 samples-part c =
     let w = c .before .before .before in
-    part-of (w .before .before .before .pre .1 .1 .1) (chroma-counted (w .before)) (in-rows c) (w .chroma-width .ensures)
+    row-inside (w .before .before .before .pre .1 .1 .1) (chroma-counted (w .before)) (in-rows c) (w .chroma-width .ensures)
 
 chroma-width-requires : tie.Need-chroma-width-requires Inv-loop μ-loop Inv-walk μ-walk
 chroma-width-requires c κs = c .before .before .pre .1 .0 .narrow

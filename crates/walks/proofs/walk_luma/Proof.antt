@@ -13,23 +13,23 @@ use Rattle.rules.specs.Check.{Clean, lumaTest}
 use Rattle.frames.specs.Rows.{rowPixel}
 use Rattle.sample_check.specs.Samples.{pixelRight}
 use Rattle.walks.proofs.Walked.{CleanRow, row-more, clean-none, clean-more, clean-all, first-wrong}
-use Rattle.walks.proofs.Parts.{Part, part-of, part, part-long, luma-shown}
+use Rattle.walks.proofs.Parts.{RowInside, row-inside, part, part-long, luma-shown}
 use Rattle.walks.proofs.walk_luma.Statement.{statement}
 use Rattle.walks.proofs.walk_luma.Tie as tie
 
 abbrev Inv-loop : tie.InvT-loop
-Inv-loop s k j f source luma channels width height stride row line from to samples passed column₀ column =
+Inv-loop s k limits f source luma channels width height stride row pixels from to samples passed column₀ column =
     (column ≤ f .width) × CleanRow (lumaTest s k f (picture (s .channels) (f .«source_stride») source) luma) row column
 
 abbrev μ-loop : tie.MeasureT-loop
-μ-loop s k j f source luma channels width height stride row line from to samples passed column₀ column = f .width - column
+μ-loop s k limits f source luma channels width height stride row pixels from to samples passed column₀ column = f .width - column
 
 abbrev Inv-walk : tie.InvT-walk
-Inv-walk s k j f source luma channels width height stride row₀ row =
+Inv-walk s k limits f source luma channels width height stride row₀ row =
     (row ≤ f .height) × Clean (lumaTest s k f (picture (s .channels) (f .«source_stride») source) luma) (f .width) row
 
 abbrev μ-walk : tie.MeasureT-walk
-μ-walk s k j f source luma channels width height stride row₀ row = f .height - row
+μ-walk s k limits f source luma channels width height stride row₀ row = f .height - row
 
 -- the bytes of the plane are counted by a usize
 luma-counted : (c : tie.After-shared-slice-known2 Inv-loop μ-loop Inv-walk μ-walk) → length (c .before .before .args .luma .now) * 2 ≤ 18446744073709551615
@@ -37,9 +37,9 @@ luma-counted c = omega arith
 
 -- where this turn's row of the plane lies
 samples-in : (c : tie.Else1 Inv-loop μ-loop Inv-walk μ-walk) → let a = c .before .before .before .before .args in
-    Part (length (a .luma .now)) (a .f .«luma_stride») (c .before .walk .row) (a .f .width)
+    RowInside (length (a .luma .now)) (a .f .«luma_stride») (c .before .walk .row) (a .f .width)
 samples-in c =
-    part-of (c .before .before .before .before .pre .1 .1 .1) (luma-counted (c .before .before)) (omega arith) refl
+    row-inside (c .before .before .before .before .pre .1 .1 .1) (luma-counted (c .before .before)) (omega arith) refl
 
 walk-holds : tie.Need-walk-holds Inv-loop μ-loop Inv-walk μ-walk
 walk-holds c = (omega arith, clean-none)
@@ -66,13 +66,13 @@ part-samples-end : tie.Need-part-samples-end Inv-loop μ-loop Inv-walk μ-walk
 part-samples-end c = samples-in (c .before) .end
 
 -- this turn's row of the source
-line : tie.After-samples Inv-loop μ-loop Inv-walk μ-walk → List ℕ
-line c = c .before .source-row .result .now
+pixels : tie.After-samples Inv-loop μ-loop Inv-walk μ-walk → List ℕ
+pixels c = c .before .source-row .result .now
 
 -- this turn's row parts hold the row
 long : (c : tie.After-samples Inv-loop μ-loop Inv-walk μ-walk) → let w = c .before .before .before in let a = w .before .before .before .args in
-    (a .f .width ≤ length (part (a .luma .now) (w .walk .row * a .f .«luma_stride») (a .f .width))) × (a .f .width * count (a .s .channels) ≤ length (line c))
-unfolding line
+    (a .f .width ≤ length (part (a .luma .now) (w .walk .row * a .f .«luma_stride») (a .f .width))) × (a .f .width * count (a .s .channels) ≤ length (pixels c))
+unfolding pixels
 long c =
     let w = c .before .before .before in
     let a = w .before .before .before .args in
@@ -82,24 +82,24 @@ long c =
 -- what a test of an element of the row parts says, of the buffers
 shown : (c : tie.After-samples Inv-loop μ-loop Inv-walk μ-walk) (e : ℕ) {r : Bool} → let w = c .before .before .before in let a = w .before .before .before .args in
     e < a .f .width →
-    r ≡ pixelRight (a .s) (a .k) (rowPixel (a .s .channels) (line c) e) (getD (part (a .luma .now) (w .walk .row * a .f .«luma_stride») (a .f .width)) e 0) →
+    r ≡ pixelRight (a .s) (a .k) (rowPixel (a .s .channels) (pixels c) e) (getD (part (a .luma .now) (w .walk .row * a .f .«luma_stride») (a .f .width)) e 0) →
     r ≡ lumaTest (a .s) (a .k) (a .f) (picture (a .s .channels) (a .f .«source_stride») (a .source .now)) (a .luma .now) (w .walk .row) e
-unfolding line
+unfolding pixels
 shown c e h q =
     let w = c .before .before .before in
     let a = w .before .before .before .args in
-    luma-shown (a .s) (a .k) (a .f) (a .source .now) (a .luma .now) (w .walk .row) e (line c) (c .before .source-row .ensures) h q
+    luma-shown (a .s) (a .k) (a .f) (a .source .now) (a .luma .now) (w .walk .row) e (pixels c) (c .before .source-row .ensures) h q
 
 luma-passed-requires : tie.Need-luma-passed-requires Inv-loop μ-loop Inv-walk μ-walk
-unfolding line
+unfolding pixels
 luma-passed-requires c κs = (c .before .before .before .before .before .before .pre .0, long c)
 
 loop-holds : tie.Need-loop-holds Inv-loop μ-loop Inv-walk μ-walk
-unfolding line
+unfolding pixels
 loop-holds c = let p = c .luma-passed .ensures in (p .most, record { clean = λ e h. sym (shown (c .before) e (lt-of-lt-of-le h (p .most)) (sym (p .right e h))) })
 
 luma-at-requires : tie.Need-luma-at-requires Inv-loop μ-loop Inv-walk μ-walk
-unfolding line
+unfolding pixels
 luma-at-requires c κs =
     let s = c .before .before .before in
     let b = s .before .before .before .before .before .before in
@@ -109,7 +109,7 @@ luma-at-requires c κs =
 -- and what this element's says
 judged : (c : tie.After-luma-at Inv-loop μ-loop Inv-walk μ-walk) → let w = c .before .before .before .before .before .before .before in let a = w .before .before .before .args in
     c .luma-at .result ≡ lumaTest (a .s) (a .k) (a .f) (picture (a .s .channels) (a .f .«source_stride») (a .source .now)) (a .luma .now) (w .walk .row) (c .before .before .loop .column)
-unfolding line
+unfolding pixels
 judged c = shown (c .before .before .before .before) (c .before .before .loop .column) (c .before .loop-test .taken) (c .luma-at .ensures)
 
 add-column : tie.Need-add-column Inv-loop μ-loop Inv-walk μ-walk

@@ -1,14 +1,15 @@
 -- `row_check::passed::chroma_passed` meets its contract. Assumes nothing.
 use borrow.Author.Needs.{needs}
 use borrow.Author.Tests.{not-false}
-use mathlib.Core.Path.{subst⁻¹}
+use mathlib.Core.Path.{sym, _∙_, subst⁻¹}
 use Prim.Native.Nat.{_*_, _≤_}
 use native.Mathlib.Omega.{arith}
 use lib.ListN.{length}
 use Rattle.rules.specs.Channels.{count}
-use Rattle.row_check.specs.declared.chroma.Ruler.{Ruler}
-use Rattle.row_check.proofs.Prefixes.{passed-none}
-use Rattle.row_check.proofs.Pairs.{whole-small}
+use Rattle.gauged_rows.specs.declared.chroma.Ruler.{Ruler}
+use Rattle.formed_rows.proofs.Formed.{all-formed-iff}
+use Rattle.gauged_rows.proofs.Prefixes.{passed-none}
+use Rattle.gauged_rows.proofs.Pairs.{whole-small}
 use Rattle.row_check.proofs.Runs.{row-right}
 use Rattle.row_check.proofs.passed.chroma_passed.Statement.{statement}
 use Rattle.row_check.proofs.passed.chroma_passed.Tie as tie
@@ -42,7 +43,7 @@ returns-2 c =
     let f = l .before in
     let b = f .before .before .before .before in
     let a = b .args in
-    row-right (a .s) (a .k) (a .j) (b .pre .0 .1) (a .width) (a .two) (a .top .now) (a .low .now) (a .chroma .now) (f .all-formed .ensures (not-false _ (l .if1 .left))) (b .pre .1 .0 .1)
+    row-right (a .s) (a .k) (a .limits) (b .pre .0 .1) (a .width) (a .two) (a .top .now) (a .low .now) (a .chroma .now) (all-formed-iff (a .s) (a .chroma .now) .0 (sym (f .all-formed .ensures) ∙ not-false _ (l .if1 .left))) (b .pre .1 .0 .1)
     (r .ruler-of .result) (c .chroma-run .result) (r .ruler-of .ensures .0) (c .chroma-run .ensures)
 
 pub chroma-passed-spec : {M : Type 1} → statement M

@@ -4,7 +4,7 @@ use mathlib.Core.Path.{sym, subst}
 use Prim.Native.Nat.{_*_, _≤_}
 use lib.ListN.{length, getD}
 use native.Mathlib.Omega.{arith}
-use Rattle.sample_check.specs.Samples.{Fitting}
+use Rattle.sample_check.specs.Samples.{TileFits}
 use Rattle.blocks.proofs.Tiles.{left-below, width-small}
 use Rattle.sample_check.proofs.Rows.{tile-fits, element-is}
 use Rattle.sample_check.proofs.row.chroma_at.Statement.{statement}
@@ -35,7 +35,7 @@ chroma-right-requires c κs =
     let t = c .before .before in
     let b = t .before .before .before .before in
     let a = b .args in
-    (b .pre .0, (b .pre .1 .0, (subst (Fitting (a .width)) (sym (t .tile .ensures)) (tile-fits (a .s .subsampling) (a .width) (a .two) (a .e) (b .pre .1 .1 .0 .1)), b .pre .1 .1 .1)))
+    (b .pre .0, (b .pre .1 .0, (subst (TileFits (a .width)) (sym (t .tile .ensures)) (tile-fits (a .s .subsampling) (a .width) (a .two) (a .e) (b .pre .1 .1 .0 .1)), b .pre .1 .1 .1)))
 
 returns : tie.Need-returns
 returns c =

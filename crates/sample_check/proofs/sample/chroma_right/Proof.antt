@@ -2,7 +2,7 @@
 use borrow.Author.Needs.{needs}
 use mathlib.Core.Path.{_∙_}
 use Rattle.frames.specs.Rows.{rowPixel}
-use Rattle.sample_check.proofs.Limits.{own-fits, chroma-modest}
+use Rattle.check_limits.proofs.Limits.{own-fits, chroma-modest}
 use Rattle.sample_check.proofs.Samples.{chroma-judged}
 use Rattle.sample_check.proofs.sample.chroma_right.Statement.{statement}
 use Rattle.sample_check.proofs.sample.chroma_right.Tie as tie
@@ -35,7 +35,7 @@ returns c =
     let a = b .args in
     let ch = a .s .channels in
     c .right-by .ensures
-    ∙ chroma-judged (a .s) (a .k) (a .j) (b .pre .1 .0) (a .v) (a .u) (a .t .wide) (a .t .two) (rowPixel ch (a .top .now)) (rowPixel ch (a .low .now)) (a .t .left)
+    ∙ chroma-judged (a .s) (a .k) (a .limits) (b .pre .1 .0) (a .v) (a .u) (a .t .wide) (a .t .two) (rowPixel ch (a .top .now)) (rowPixel ch (a .low .now)) (a .t .left)
     (c .before .exact-chroma .result) (l .own-limit .ensures) (m .sums .ensures .0) (c .before .exact-chroma .ensures .value)
 
 pub chroma-right-spec : {M : Type 1} → statement M
