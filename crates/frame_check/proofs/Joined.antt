@@ -1,29 +1,38 @@
--- What check is to answer, by a verdict that is known. Assumes nothing.
-use mathlib.Core.Path.{_≡_, refl, subst, subst⁻¹}
-use mathlib.Core.List.{List}
+-- What check is to answer, by what its lines come to. Assumes nothing.
+use mathlib.Core.Path.{_≡_, sym, ap, _∙_}
+use mathlib.Core.List.{List, []}
 use Prim.Native.Nat.{ℕ}
 use Rattle.rules.specs.declared.Settings.{Settings}
 use Rattle.rules.specs.declared.Frame.{Frame}
 use Rattle.rules.specs.declared.Named.{Named}
 use Rattle.rules.specs.declared.Matrix.{Matrix}
 use Rattle.rules.specs.declared.Matrix.the-variants.{Tabled}
-use Rattle.rules.specs.declared.Refusal.{Refusal}
-use Rattle.rules.specs.declared.Checked.{Checked}
-use Rattle.rules.specs.declared.Checked.the-variants.{Refused}
-use Rattle.rules.specs.declared.Verdict.{Verdict}
-use Rattle.rules.specs.declared.Verdict.the-variants.{Passes, Refuses}
-use Rattle.rules.specs.Channels.{picture}
+use Rattle.rules.specs.declared.Search.{Search}
+use Rattle.rules.specs.declared.Search.the-variants.{Nothing, At}
+use Rattle.rules.specs.Channels.{Picture}
 use Rattle.rules.specs.Matrices.{matrixOf}
-use Rattle.rules.specs.Check.{Judged, ByMatrix, ByVerdict}
+use Rattle.rules.specs.Refusals.{Line}
+use Rattle.rules.specs.Answers.{Answer, given, answer, placeValues}
+use Rattle.rules.specs.Frames.{shown}
+use Rattle.rules.specs.Check.{named, judged, judgedBy, judgement}
 
-module _ (s : Settings) (f : Frame) (source luma chroma : List ℕ) where
-  -- one verdict for another
-  pub carried : {u v : Verdict} (r : Checked) → u ≡ v → ByVerdict u s f source luma chroma r → ByVerdict v s f source luma chroma r
-  carried r e h = subst (λ (x : Verdict). ByVerdict x s f source luma chroma r) e h
+-- one line for another
+pub carried : {a : Answer} {k l : Line} (after : Answer) → k ≡ l → a ≡ answer k after → a ≡ answer l after
+carried after e h = h ∙ ap (λ (x : Line). answer x after) e
 
-  pub refused-by : {v : Verdict} (n : Refusal) → Refuses n ≡ v → ByVerdict v s f source luma chroma (Refused n)
-  refused-by n e = carried (Refused n) e refl
+-- a named matrix judges by its row
+pub by-row : (s : Settings) (f : Frame) (source luma chroma : List ℕ) (k : Named) → matrixOf (s .matrix) ≡ Tabled k →
+    judged s k f (shown s f source) luma chroma ≡ judgement s f source luma chroma
+by-row s f source luma chroma k e = sym (ap (λ (m : Matrix). judgedBy m s f (shown s f source) luma chroma) e)
 
-  pub judged-by : {v : Verdict} (k : Named) (r : Checked) → Passes ≡ v → matrixOf (s .matrix) ≡ Tabled k
-      → Judged s k f (picture (s .channels) (f .«source_stride») source) luma chroma r → ByVerdict v s f source luma chroma r
-  judged-by k r e named j = carried r e (subst⁻¹ (λ (m : Matrix). ByMatrix s m f (picture (s .channels) (f .«source_stride») source) luma chroma r) named j)
+-- ---- what the two walks come to
+
+module _ {y c : Search} where
+  pub luma-wrong : {row element : ℕ} {after : Answer} → y ≡ At row element → given (placeValues 0 row element) ≡ named 0 y after
+  luma-wrong {after} e = sym (ap (λ (x : Search). named 0 x after) e)
+
+  pub chroma-wrong : {row element : ℕ} → y ≡ Nothing → c ≡ At row element → given (placeValues 1 row element) ≡ named 0 y (named 1 c (given []))
+  chroma-wrong e f = sym (λ i. named 0 (e i) (named 1 (f i) (given [])))
+
+  pub both-right : y ≡ Nothing → c ≡ Nothing → given [] ≡ named 0 y (named 1 c (given []))
+  both-right e f = sym (λ i. named 0 (e i) (named 1 (f i) (given [])))

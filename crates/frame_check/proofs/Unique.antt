@@ -1,121 +1,132 @@
--- THE THEOREMS of check's promise: it admits one answer for any input, and accepting says that no visible sample is wrong. Assumes nothing.
-use mathlib.Core.Path.{_≡_, refl, ap, _∙_, sym, subst, subst⁻¹}
-use mathlib.Core.Bool.{true, false, true≢false}
-use mathlib.Core.List.{List}
+-- THE THEOREMS of check's promise: it admits one answer for any input; it accepts exactly when no visible sample is wrong, names a
+-- sample exactly when it is the first wrong one, and refuses exactly when a line of its table does. Assumes nothing.
+use mathlib.Core.Path.{_≡_, refl, sym, ap, _∙_}
+use mathlib.Core.Bool.{false, true≢false}
+use mathlib.Core.List.{List, []}
 use mathlib.Core.Logic.{_↔_}
-use Prim.Native.Nat.{ℕ, zero, suc, _≤_}
-use native.Mathlib.Decide.{decLt}
-use native.Mathlib.Nat.{le-antisymm}
+use Prim.Native.Nat.{ℕ}
 use native.Mathlib.Omega.{arith}
+use lib.IntN.{ℤ, natAbs, pos}
+use lib.ListN.{length, getD}
 use Rattle.rules.specs.declared.Settings.{Settings}
 use Rattle.rules.specs.declared.Frame.{Frame}
 use Rattle.rules.specs.declared.Named.{Named}
 use Rattle.rules.specs.declared.Matrix.{Matrix}
 use Rattle.rules.specs.declared.Matrix.the-variants.{Tabled, Own}
-use Rattle.rules.specs.declared.Refusal.{Refusal}
 use Rattle.rules.specs.declared.Checked.{Checked}
-use Rattle.rules.specs.declared.Checked.the-variants.{Accepted, Wrong, Refused}
-use Rattle.rules.specs.Channels.{Picture, picture}
+use Rattle.rules.specs.declared.Search.{Search}
+use Rattle.rules.specs.declared.Search.the-variants.{Nothing, At}
+use Rattle.rules.specs.Channels.{Picture}
 use Rattle.rules.specs.Matrices.{matrixOf}
 use Rattle.rules.specs.Blocks.{chromaWidth, chromaHeight}
-use Rattle.rules.specs.declared.Verdict.{Verdict}
-use Rattle.rules.specs.declared.Verdict.the-variants.{Passes, Refuses}
-use Rattle.rules.specs.Refusals.{first}
-use Rattle.rules.specs.Check.{Test, Clean, FirstWrong, lumaTest, chromaTest, JudgedPlace, Judged, ByMatrix, ByVerdict, checkLines, Answers}
+use Rattle.rules.specs.Refusals.{Line, passes, refuses, first}
+use Rattle.rules.specs.Search.{Clean, FirstWrong, firstFailing}
+use Rattle.rules.specs.Answers.{Answer, given, refused, answer, placeValues, checkedAnswer}
+use Rattle.rules.specs.Settle.{settleLines}
+use Rattle.rules.specs.Frames.{shown}
+use Rattle.rules.specs.Check.{lumaTest, chromaTest, isCustom, checkLines, named, judged, judgedBy, judgement, check}
+use Rattle.rule_laws.proofs.Refusals.{parted, passed-by}
+use Rattle.rule_laws.proofs.Answers.{one-checked}
+use Rattle.plane_laws.proofs.Searches.{clean-none, none-clean, first-found, found-wrong}
+use Rattle.frame_check.proofs.Joined.{by-row, luma-wrong, chroma-wrong, both-right}
 
--- ---- the first wrong sample of a plane
+-- ---- the answers that two searches come to
 
-module _ {t : Test} {wide h : ℕ} where
-  -- a clean plane has none
-  spotless : {X : Type 0} {row e : ℕ} → Clean t wide h → FirstWrong t wide h row e → X
-  spotless {row = row} {e} k w = absurd (true≢false (sym (k .clean row e (w .below) (w .inside)) ∙ w .wrong))
+-- a value of an answer
+valueIn : ℕ → Answer → ℕ
+valueIn n (given v) = natAbs (getD v n (pos 0))
+valueIn n (refused m v) = 0
 
-  -- of two, neither row is above the other
-  not-above : {row e row′ e′ : ℕ} → FirstWrong t wide h row e → FirstWrong t wide h row′ e′ → row′ ≤ row
-  not-above {row} {e} {row′} p q =
-      elim (decLt row row′) [ yes l ↦ absurd (true≢false (sym (q .above .clean row e l (p .inside)) ∙ p .wrong)) | no n ↦ omega arith ]
+howMany : Answer → ℕ
+howMany (given v) = length v
+howMany (refused n v) = 0
 
-  -- and in one row neither element is before the other
-  not-before : {row e e′ : ℕ} → FirstWrong t wide h row e → FirstWrong t wide h row e′ → e′ ≤ e
-  not-before {row} {e} {e′} p q =
-      elim (decLt e e′) [ yes l ↦ absurd (true≢false (sym (q .before e l) ∙ p .wrong)) | no n ↦ omega arith ]
+module _ (y c : Search) where
+  nothing-named : named 0 y (named 1 c (given [])) ≡ given [] → (y ≡ Nothing) × (c ≡ Nothing)
+  unfolding howMany
+  nothing-named e = go y c (ap howMany e)
+    where
+      go : (y c : Search) → howMany (named 0 y (named 1 c (given []))) ≡ 0 → (y ≡ Nothing) × (c ≡ Nothing)
+      go Nothing Nothing e = (refl, refl)
+      go Nothing (At r x) e = absurd (omega arith)
+      go (At r x) c e = absurd (omega arith)
 
-  one-place : {row e row′ e′ : ℕ} → FirstWrong t wide h row e → FirstWrong t wide h row′ e′ → (row ≡ row′) × (e ≡ e′)
-  one-place {row} {e} {row′} {e′} p q =
-      let r : row ≡ row′ = le-antisymm (not-above q p) (not-above p q) in
-      let q′ : FirstWrong t wide h row e′ = subst⁻¹ (λ (i : ℕ). FirstWrong t wide h i e′) r q in
-      (r, le-antisymm (not-before q′ p) (not-before p q′))
+  luma-named : (row element : ℕ) → named 0 y (named 1 c (given [])) ≡ given (placeValues 0 row element) → y ≡ At row element
+  unfolding howMany valueIn
+  luma-named row element e = go y c (ap howMany e) (ap (valueIn 0) e) (ap (valueIn 1) e) (ap (valueIn 2) e)
+    where
+      go : (y c : Search) → howMany (named 0 y (named 1 c (given []))) ≡ 3 → valueIn 0 (named 0 y (named 1 c (given []))) ≡ 0 → valueIn 1 (named 0 y (named 1 c (given []))) ≡ row → valueIn 2 (named 0 y (named 1 c (given []))) ≡ element → y ≡ At row element
+      go Nothing Nothing n p r x = absurd (omega arith)
+      go Nothing (At a b) n p r x = absurd (omega arith)
+      go (At a b) c n p r x = λ i. At (r i) (x i)
 
--- ---- the places of both planes
+  chroma-named : (row element : ℕ) → named 0 y (named 1 c (given [])) ≡ given (placeValues 1 row element) → (y ≡ Nothing) × (c ≡ At row element)
+  unfolding howMany valueIn
+  chroma-named row element e = go y c (ap howMany e) (ap (valueIn 0) e) (ap (valueIn 1) e) (ap (valueIn 2) e)
+    where
+      go : (y c : Search) → howMany (named 0 y (named 1 c (given []))) ≡ 3 → valueIn 0 (named 0 y (named 1 c (given []))) ≡ 1 → valueIn 1 (named 0 y (named 1 c (given []))) ≡ row → valueIn 2 (named 0 y (named 1 c (given []))) ≡ element → (y ≡ Nothing) × (c ≡ At row element)
+      go Nothing Nothing n p r x = absurd (omega arith)
+      go Nothing (At a b) n p r x = (refl, λ i. At (r i) (x i))
+      go (At a b) c n p r x = absurd (omega arith)
 
-module _ (y : Test) (yw yh : ℕ) (c : Test) (cw ch : ℕ) where
-  same-place : (n m row e row′ e′ : ℕ) → JudgedPlace y yw yh c cw ch n row e → JudgedPlace y yw yh c cw ch m row′ e′ → (n ≡ m) × (row ≡ row′) × (e ≡ e′)
-  same-place zero zero row e row′ e′ a b = let o = one-place a b in (refl, o .0, o .1)
-  same-place zero (suc zero) row e row′ e′ a b = spotless (b .0) a
-  same-place (suc zero) zero row e row′ e′ a b = spotless (a .0) b
-  same-place (suc zero) (suc zero) row e row′ e′ a b = let o = one-place (a .1) (b .1) in (refl, o .0, o .1)
-  same-place (suc (suc n)) m row e row′ e′ a b = absurd a
-  same-place zero (suc (suc m)) row e row′ e′ a b = absurd b
-  same-place (suc zero) (suc (suc m)) row e row′ e′ a b = absurd b
-
-  -- no place is wrong where both planes are clean
-  no-place : {X : Type 0} (n row e : ℕ) → Clean y yw yh → Clean c cw ch → JudgedPlace y yw yh c cw ch n row e → X
-  no-place zero row e a b w = spotless a w
-  no-place (suc zero) row e a b w = spotless b (w .1)
-  no-place (suc (suc n)) row e a b w = absurd w
-
--- ---- the answers
-
-module _ (s : Settings) (k : Named) (f : Frame) (px : Picture) (luma chroma : List ℕ) where
-  judged-one : (r q : Checked) → Judged s k f px luma chroma r → Judged s k f px luma chroma q → r ≡ q
-  judged-one Accepted Accepted a b = refl
-  judged-one Accepted (Wrong q) a b = no-place _ _ _ _ _ _ (q .plane) (q .row) (q .element) (a .0) (a .1) b
-  judged-one (Wrong p) Accepted a b = no-place _ _ _ _ _ _ (p .plane) (p .row) (p .element) (b .0) (b .1) a
-  judged-one (Wrong p) (Wrong q) a b =
-      let o = same-place _ _ _ _ _ _ (p .plane) (q .plane) (p .row) (p .element) (q .row) (q .element) a b in
-      λ i. Wrong (record { plane = o .0 i; row = o .1 i; element = o .2 i })
-  judged-one Accepted (Refused n) a b = absurd b
-  judged-one (Wrong p) (Refused n) a b = absurd b
-  judged-one (Refused n) q a b = absurd a
+-- ---- where no refusal applies
 
 module _ (s : Settings) (f : Frame) (source luma chroma : List ℕ) where
-  by-matrix-one : (m : Matrix) (r q : Checked) → let px = picture (s .channels) (f .«source_stride») source in ByMatrix s m f px luma chroma r → ByMatrix s m f px luma chroma q → r ≡ q
-  by-matrix-one (Tabled k) r q a b = judged-one s k f (picture (s .channels) (f .«source_stride») source) luma chroma r q a b
-  by-matrix-one (Own p) r q a b = absurd a
-
-  by-verdict-one : (v : Verdict) (r q : Checked) → ByVerdict v s f source luma chroma r → ByVerdict v s f source luma chroma q → r ≡ q
-  by-verdict-one (Refuses n) r q a b = a ∙ sym b
-  by-verdict-one Passes r q a b = by-matrix-one (matrixOf (s .matrix)) r q a b
-
   -- THE THEOREM: any two answers that check's promise admits are equal
-  pub one-answer : (r q : Checked) → Answers s f source luma chroma r → Answers s f source luma chroma q → r ≡ q
-  one-answer r q a b = by-verdict-one (first (checkLines s f source luma chroma)) r q a b
+  pub one-answer : (r q : Checked) → checkedAnswer r ≡ check s f source luma chroma → checkedAnswer q ≡ check s f source luma chroma → r ≡ q
+  one-answer r q a b = one-checked r q (a ∙ sym b)
 
-  -- where no refusal applies, the answer is what the planes are judged
-  pub where-passed : (k : Named) (r : Checked) → first (checkLines s f source luma chroma) ≡ Passes → matrixOf (s .matrix) ≡ Tabled k →
-      Answers s f source luma chroma r ≡ Judged s k f (picture (s .channels) (f .«source_stride») source) luma chroma r
-  where-passed k r e n =
-      ap (λ (v : Verdict). ByVerdict v s f source luma chroma r) e
-      ∙ ap (λ (m : Matrix). ByMatrix s m f (picture (s .channels) (f .«source_stride») source) luma chroma r) n
+  module _ (k : Named) (e : first (checkLines s f source luma chroma) ≡ passes) (n : matrixOf (s .matrix) ≡ Tabled k) where
+    -- the answer is what the planes are judged
+    pub where-passed : check s f source luma chroma ≡ judged s k f (shown s f source) luma chroma
+    unfolding check
+    where-passed = ap (λ (l : Line). answer l (judgement s f source luma chroma)) e ∙ sym (by-row s f source luma chroma k n)
 
-  -- THE THEOREM: there, accepting is the same as that no visible sample of either plane is wrong
-  pub accepted-iff : (k : Named) → first (checkLines s f source luma chroma) ≡ Passes → matrixOf (s .matrix) ≡ Tabled k →
-      let px = picture (s .channels) (f .«source_stride») source in
-      Answers s f source luma chroma Accepted ↔
-      (Clean (lumaTest s k f px luma) (f .width) (f .height)
-      × Clean (chromaTest s k f px chroma) (chromaWidth (s .subsampling) (f .width)) (chromaHeight (s .subsampling) (f .height)))
-  accepted-iff k e n =
-      let q = where-passed k Accepted e n in
-      (λ a. subst (λ (X : Type 0). X) q a, λ b. subst⁻¹ (λ (X : Type 0). X) q b)
+    abbrev CleanLuma : Type 0
+    CleanLuma = Clean (lumaTest s k f (shown s f source) luma) (f .width) (f .height)
 
-  -- and a refusal is given exactly when it is the first that applies
-  pub refused-iff : (n : Refusal) → Answers s f source luma chroma (Refused n) ↔ (first (checkLines s f source luma chroma) ≡ Refuses n)
-  refused-iff n = (λ a. due (first (checkLines s f source luma chroma)) a, λ e. subst⁻¹ (λ (v : Verdict). ByVerdict v s f source luma chroma (Refused n)) e refl)
+    abbrev CleanChroma : Type 0
+    CleanChroma = Clean (chromaTest s k f (shown s f source) chroma) (chromaWidth (s .subsampling) (f .width)) (chromaHeight (s .subsampling) (f .height))
+
+    -- THE THEOREM: accepting is the same as that no visible sample of either plane is wrong
+    pub accepted-iff : (check s f source luma chroma ≡ given []) ↔ (CleanLuma × CleanChroma)
+    accepted-iff = (
+      λ a. let b = nothing-named _ _ (sym where-passed ∙ a) in (none-clean _ _ _ (b .0), none-clean _ _ _ (b .1)),
+      λ b. where-passed ∙ sym (both-right (clean-none _ _ _ (b .0)) (clean-none _ _ _ (b .1))),
+    )
+
+    -- a sample of luma is named exactly when it is the first wrong one
+    pub luma-wrong-iff : (row element : ℕ) → (check s f source luma chroma ≡ given (placeValues 0 row element))
+        ↔ FirstWrong (lumaTest s k f (shown s f source) luma) (f .width) (f .height) row element
+    luma-wrong-iff row element = (
+      λ a. found-wrong _ _ _ _ _ (luma-named _ _ row element (sym where-passed ∙ a)),
+      λ w. where-passed ∙ sym (luma-wrong {c = Nothing} (first-found _ _ _ _ _ w)),
+    )
+
+    -- a sample of chroma is named exactly when luma is clean and it is chroma's first wrong one
+    pub chroma-wrong-iff : (row element : ℕ) → (check s f source luma chroma ≡ given (placeValues 1 row element))
+        ↔ (CleanLuma × FirstWrong (chromaTest s k f (shown s f source) chroma) (chromaWidth (s .subsampling) (f .width)) (chromaHeight (s .subsampling) (f .height)) row element)
+    chroma-wrong-iff row element = (
+      λ a. let b = chroma-named _ _ row element (sym where-passed ∙ a) in (none-clean _ _ _ (b .0), found-wrong _ _ _ _ _ (b .1)),
+      λ w. where-passed ∙ sym (chroma-wrong (clean-none _ _ _ (w .0)) (first-found _ _ _ _ _ (w .1))),
+    )
+
+  -- ---- and a refusal is given exactly when it is the first that applies
+
+  -- by a row of the table of matrices nothing is refused
+  unrefused : {X : Type 0} (y c : Search) (n : ℕ) (v : List ℤ) → named 0 y (named 1 c (given [])) ≡ refused n v → X
+  unrefused Nothing Nothing n v e = absurd (let z : _≡_ {A = ℕ} 0 1 = cc in omega arith)
+  unrefused Nothing (At a b) n v e = absurd (let z : _≡_ {A = ℕ} 0 1 = cc in omega arith)
+  unrefused (At a b) c n v e = absurd (let z : _≡_ {A = ℕ} 0 1 = cc in omega arith)
+
+  due : (n : ℕ) (v : List ℤ) (l : Line) → first (checkLines s f source luma chroma) ≡ l → answer l (judgement s f source luma chroma) ≡ refused n v → l ≡ refuses n v
+  due n v (refuses m u) h a = let p : m ≡ n = cc in let q : u ≡ v = cc in λ i. refuses (p i) (q i)
+  due n v passes h a = by (matrixOf (s .matrix)) (passed-by _ _ _ (parted (settleLines s) _ h .1) .0) a
     where
-      unjudged : {X : Type 0} (m : Matrix) → ByMatrix s m f (picture (s .channels) (f .«source_stride») source) luma chroma (Refused n) → X
-      unjudged (Tabled k) a = absurd a
-      unjudged (Own p) a = absurd a
+      by : {X : Type 0} (m : Matrix) → isCustom m ≡ false → judgedBy m s f (shown s f source) luma chroma ≡ refused n v → X
+      by (Tabled k) c a = unrefused _ _ n v a
+      by (Own p) c a = absurd (true≢false c)
 
-      due : (v : Verdict) → ByVerdict v s f source luma chroma (Refused n) → v ≡ Refuses n
-      due (Refuses m) a = let e : m ≡ n = cc in ap Refuses e
-      due Passes a = unjudged (matrixOf (s .matrix)) a
+  pub refused-iff : (n : ℕ) (v : List ℤ) → (check s f source luma chroma ≡ refused n v) ↔ (first (checkLines s f source luma chroma) ≡ refuses n v)
+  unfolding check
+  refused-iff n v = (λ a. due n v (first (checkLines s f source luma chroma)) refl a, λ e. ap (λ (l : Line). answer l (judgement s f source luma chroma)) e)

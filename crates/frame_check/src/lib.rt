@@ -1,30 +1,25 @@
 // The check of a frame: every visible sample judged by its exact fraction, and the first wrong one named.
 ghost use mathlib.Core.Path.{_≡_};
-ghost use mathlib.Core.List.{_∷_};
-ghost use Prim.Native.Nat.{_+_, _*_, _≤_};
+ghost use Prim.Native.Nat.{_+_, _≤_};
 ghost use lib.ListN.{length};
-ghost use Rattle.rules.specs.Channels.{count, picture};
-ghost use Rattle.rules.specs.Blocks.{chromaWidth, chromaHeight};
 ghost use Rattle.rules.specs.declared.Matrix.the-variants.{Tabled};
-ghost use Rattle.rules.specs.declared.Refusal.the-variants.{CustomUnchecked};
 ghost use Rattle.rules.specs.Matrices.{matrixOf};
-ghost use Rattle.rules.specs.Refusals.{line, first};
-ghost use Rattle.rules.specs.Frames.{frameLines};
-ghost use Rattle.rules.specs.Check.{Judged, isCustom, ByVerdict, Answers};
+ghost use Rattle.rules.specs.Answers.{answer, checkedAnswer};
+ghost use Rattle.rules.specs.Frames.{shown, frameLine};
+ghost use Rattle.rules.specs.Check.{matrixLine, judged, judgement, check};
 ghost use Rattle.rule_laws.specs.Usable.{Reach};
-ghost use Rattle.frames.specs.Rows.{Rows};
-ghost use Rattle.frames.specs.Tests.{Sized};
+ghost use Rattle.frames.specs.Tests.{Ready};
 use rules::Checked;
 use rules::Frame;
 use rules::Matrix;
 use rules::Named;
 use rules::Place;
 use rules::Refusal;
+use rules::Search;
 use rules::Settings;
 use rules::Settled;
 use rules::Verdict;
 use settle::settle;
-use walks::Found;
 use yuv_support::matrices;
 
 // The answer where no refusal is due: luma is walked first, and chroma only where luma is clean.
@@ -38,14 +33,12 @@ fn check_settled(
 ) -> Checked
     requires { ⌜ Reach s ⌝ }
     requires { ⌜ k .kr + k .kb ≤ 10000 ⌝ }
-    requires { ⌜ Sized f ⌝ }
-    requires { ⌜ Rows (length (now source)) (f .«source_stride») (f .width * count (s .channels)) (f .height) ⌝ }
-    requires { ⌜ (Rows (length (now luma)) (f .«luma_stride») (f .width) (f .height)) × (Rows (length (now chroma)) (f .«chroma_stride») (chromaWidth (s .subsampling) (f .width)) (chromaHeight (s .subsampling) (f .height))) ⌝ }
-    ensures { λ r. ⌜ Judged s k f (picture (s .channels) (f .«source_stride») (now (source .entry))) (now (luma .entry)) (now (chroma .entry)) r ⌝ }
+    requires { ⌜ Ready s f (now source) (length (now luma)) (length (now chroma)) ⌝ }
+    ensures { λ r. ⌜ checkedAnswer r ≡ judged s k f (shown s f (now (source .entry))) (now (luma .entry)) (now (chroma .entry)) ⌝ }
 {
     let limits = check_limits::limits_of(s, k);
     let in_luma = walks::walk_luma(s, k, limits, f, source, luma);
-    if let Found::At(row, element) = in_luma {
+    if let Search::At(row, element) = in_luma {
         let luma_place = Place {
             plane: 0,
             row,
@@ -54,7 +47,7 @@ fn check_settled(
         return Checked::Wrong(luma_place);
     }
     let in_chroma = walks::walk_chroma(s, k, limits, f, source, chroma);
-    if let Found::At(row, element) = in_chroma {
+    if let Search::At(row, element) = in_chroma {
         let chroma_place = Place {
             plane: 1,
             row,
@@ -76,9 +69,9 @@ fn check_named(
 ) -> Checked
     requires { ⌜ Reach s ⌝ }
     requires { ⌜ matrixOf (s .matrix) ≡ Tabled k ⌝ }
-    ensures { λ r. ⌜ ByVerdict (first (frameLines s f (now (source .entry)) (length (now (luma .entry))) (length (now (chroma .entry))))) s f (now (source .entry)) (now (luma .entry)) (now (chroma .entry)) r ⌝ }
+    ensures { λ r. ⌜ checkedAnswer r ≡ answer (frameLine s f (now (source .entry)) (now (luma .entry)) (now (chroma .entry))) (judgement s f (now (source .entry)) (now (luma .entry)) (now (chroma .entry))) ⌝ }
 {
-    let verdict = frame_refusals::judge(s, f, source, luma.len(), chroma.len());
+    let verdict = frame_refusals::frame_verdict(s, f, source, luma.len(), chroma.len());
     match verdict {
         Verdict::Refuses(r) => Checked::Refused(r),
         Verdict::Passes => check_settled(s, k, f, source, luma, chroma),
@@ -96,7 +89,7 @@ fn check_matrix(
 ) -> Checked
     requires { ⌜ Reach s ⌝ }
     requires { ⌜ matrix ≡ matrixOf (s .matrix) ⌝ }
-    ensures { λ r. ⌜ ByVerdict (first (line CustomUnchecked (isCustom (matrixOf (s .matrix))) ∷ frameLines s f (now (source .entry)) (length (now (luma .entry))) (length (now (chroma .entry))))) s f (now (source .entry)) (now (luma .entry)) (now (chroma .entry)) r ⌝ }
+    ensures { λ r. ⌜ checkedAnswer r ≡ answer (matrixLine s f (now (source .entry)) (now (luma .entry)) (now (chroma .entry))) (judgement s f (now (source .entry)) (now (luma .entry)) (now (chroma .entry))) ⌝ }
 {
     match matrix {
         Matrix::Own(_) => Checked::Refused(Refusal::CustomUnchecked),
@@ -106,7 +99,7 @@ fn check_matrix(
 
 // Settles the settings, then checks the frame: the first refusal that applies, or accepted, or the first wrong sample.
 pub fn check(s: Settings, f: Frame, source: &[u16], luma: &[u16], chroma: &[u16]) -> Checked
-    ensures { λ r. ⌜ Answers s f (now (source .entry)) (now (luma .entry)) (now (chroma .entry)) r ⌝ }
+    ensures { λ r. ⌜ checkedAnswer r ≡ check s f (now (source .entry)) (now (luma .entry)) (now (chroma .entry)) ⌝ }
 {
     let settled = settle(s);
     match settled {

@@ -66,6 +66,10 @@ customLine s = line 6 (isCustom (matrixOf (s .matrix)))
 abbrev pub checkLines : Settings → Frame → List ℕ → List ℕ → List ℕ → List Line
 checkLines s f source luma chroma = settleLines s ++ (customLine s ∷ frameLines s f source (length luma) (length chroma))
 
+-- what the lines from 6 on come to
+abbrev pub matrixLine : Settings → Frame → List ℕ → List ℕ → List ℕ → Line
+matrixLine s f source luma chroma = first (customLine s ∷ frameLines s f source (length luma) (length chroma))
+
 -- a wrong sample of a plane is named; where there is none, what comes after decides
 abbrev pub named : ℕ → Search → Answer → Answer
 named plane Nothing after = after
@@ -83,7 +87,9 @@ abbrev pub judgedBy : Matrix → Settings → Frame → Picture → List ℕ →
 judgedBy (Tabled k) s f px luma chroma = judged s k f px luma chroma
 judgedBy (Own p) s f px luma chroma = refused 6 []
 
+abbrev pub judgement : Settings → Frame → List ℕ → List ℕ → List ℕ → Answer
+judgement s f source luma chroma = judgedBy (matrixOf (s .matrix)) s f (shown s f source) luma chroma
+
 -- THE PROMISE of check
 unfoldable pub check : Settings → Frame → List ℕ → List ℕ → List ℕ → Answer
-check s f source luma chroma =
-    answer (first (checkLines s f source luma chroma)) (judgedBy (matrixOf (s .matrix)) s f (shown s f source) luma chroma)
+check s f source luma chroma = answer (first (checkLines s f source luma chroma)) (judgement s f source luma chroma)

@@ -9,9 +9,9 @@ use Rattle.rules.specs.declared.Named.{Named}
 use Rattle.rules.specs.declared.Pixel.{Pixel}
 use Rattle.rules.specs.Ranges.{most, biasUV, rangeUV}
 use Rattle.rules.specs.Storage.{stored}
-use Rattle.rules.specs.Fractions.{Fraction, exactLuma, halves}
-use Rattle.rules.specs.Check.{right}
+use Rattle.rules.specs.Fractions.{Fraction, exactLuma, halves, within}
 use Rattle.tolerance_laws.specs.Chroma.{ownK, exactChroma}
+use Rattle.tolerance_laws.proofs.Samples.{chroma-exact-is}
 use Rattle.blocks.specs.Tiles.{tiles}
 use Rattle.formed_rows.specs.Formed.{isFormed}
 use Rattle.fractions.specs.declared.Exact.{Exact}
@@ -27,9 +27,13 @@ use Rattle.check_limits.specs.Limits.{LimitsOf, ownLimit}
 use Rattle.check_limits.proofs.Limits.{own-sized}
 use Rattle.sample_check.specs.Samples.{nearBy, rightBy, pixelRight, blockRight}
 
--- a word is right by the fraction that an exact value stands for
+-- a word is well formed, and its code within so many halves and the weights' share of a fraction
+abbrev within-of : Settings → ℕ → Fraction → ℕ → Bool
+within-of s h f v = isFormed s v && within (s .precision) (most (s .depth)) h f (stored (s .packing) (s .endianness) (s .depth) v)
+
+-- by the fraction that an exact value stands for
 by-fraction : (s : Settings) (h v : ℕ) {bound : ℕ} (x : Exact) {g f : Fraction} → fractionOf x ≡ g → g ≡ f →
-    bound ≡ boundOf (s .precision) (most (s .depth)) h (f .under) → rightBy s bound x v ≡ right s h f v
+    bound ≡ boundOf (s .precision) (most (s .depth)) h (f .under) → rightBy s bound x v ≡ within-of s h f v
 by-fraction s h v x e q o =
     ap (λ (b : Bool). isFormed s v && b)
     (judged (s .precision) (most (s .depth)) h (stored (s .packing) (s .endianness) (s .depth) v) x e q o)
@@ -70,3 +74,4 @@ module _ (s : Settings) (k : Named) (limits : SettingsLimits) (h : LimitsOf s k 
       (chroma-of u k m (limits .ranges .«bias_uv») (limits .ranges .«range_uv») w g (ap (λ (o : Limit). o .under) f ∙ n .divisor)
       ∙ (λ i. exactChroma u k m (h .ranges i .«bias_uv») (h .ranges i .«range_uv») w))
       (ap (λ (o : Limit). o .bound) f ∙ n .bound ∙ ap (boundOf (s .precision) m (halves w)) (chroma-under u k m (biasUV (s .depth)) (rangeUV (s .range) (s .depth)) w))
+      ∙ ap (λ (f : Fraction). within-of s (halves w) f v) (sym (chroma-exact-is s k u w))

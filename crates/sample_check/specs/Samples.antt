@@ -2,7 +2,7 @@
 -- Definitions and statements only.
 use Prim.Native.Nat.{ℕ, _+_, _/_, _<_}
 use mathlib.Core.Path.{_≡_}
-use mathlib.Core.Bool.{Bool, true, _&&_}
+use mathlib.Core.Bool.{Bool, true, _&&_, cond}
 use mathlib.Core.List.{List, [], _∷_}
 use lib.Dec.{leb}
 use lib.ListN.{getD}
@@ -11,12 +11,10 @@ use Rattle.rules.specs.declared.Named.{Named}
 use Rattle.rules.specs.declared.Pixel.{Pixel}
 use Rattle.rules.specs.declared.YuvChromaSubsampling.{YuvChromaSubsampling}
 use Rattle.rules.specs.declared.YuvSourceChannels.{YuvSourceChannels}
-use Rattle.rules.specs.Ranges.{most, biasY, biasUV, rangeY, rangeUV}
+use Rattle.rules.specs.declared.Component.the-variants.{Y, Cb, Cr}
 use Rattle.rules.specs.Channels.{isU}
 use Rattle.rules.specs.Storage.{stored}
-use Rattle.rules.specs.Fractions.{exactLuma, halves}
 use Rattle.rules.specs.Check.{right}
-use Rattle.tolerance_laws.specs.Chroma.{exactChroma}
 use Rattle.blocks.specs.Tiles.{leftOf, wideAt, tiles}
 use Rattle.formed_rows.specs.Formed.{isFormed}
 use Rattle.fractions.specs.declared.Exact.{Exact}
@@ -34,11 +32,11 @@ rightBy s bound x v = isFormed s v && nearBy s bound x v
 
 -- a word is right as the luma of a pixel
 abbrev pub pixelRight : Settings → Named → Pixel → ℕ → Bool
-pixelRight s k p v = right s 1 (exactLuma k (most (s .depth)) (biasY (s .range) (s .depth)) (rangeY (s .range) (s .depth)) (p ∷ [])) v
+pixelRight s k p v = right s k (record { component = Y; pixels = p ∷ [] }) v
 
 -- a word is right as the Cb of a block where u is true, as its Cr where it is false
 unfoldable pub blockRight : Settings → Named → Bool → List Pixel → ℕ → Bool
-blockRight s k u b v = right s (halves b) (exactChroma u k (most (s .depth)) (biasUV (s .depth)) (rangeUV (s .range) (s .depth)) b) v
+blockRight s k u b v = right s k (record { component = cond u Cb Cr; pixels = b }) v
 
 -- ---- blocks of a row
 

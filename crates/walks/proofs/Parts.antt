@@ -10,9 +10,11 @@ use Rattle.rules.specs.declared.Settings.{Settings}
 use Rattle.rules.specs.declared.Named.{Named}
 use Rattle.rules.specs.declared.Frame.{Frame}
 use Rattle.rules.specs.declared.Pixel.{Pixel}
-use Rattle.rules.specs.Channels.{Picture, isU, picture}
+use Rattle.rules.specs.Channels.{Picture, isU}
 use Rattle.rules.specs.Blocks.{chromaWidth}
-use Rattle.rules.specs.Check.{chromaRight, lumaTest, chromaTest}
+use Rattle.rules.specs.PlaneSamples.{chromaSample}
+use Rattle.rules.specs.Frames.{shown}
+use Rattle.rules.specs.Check.{right, lumaTest, chromaTest}
 use Rattle.blocks.specs.Tiles.{leftOf, wideAt, topOf, twoAt, secondOf, tiles}
 use Rattle.blocks.proofs.Tiles.{block-tiles, left-below, wide-below, tiles-same}
 use Rattle.frames.specs.Rows.{Rows, rowPixel, Shows}
@@ -41,7 +43,7 @@ part-at xs a n e h = getD-take (a + n - a) (drop a xs) e 0 (omega arith) ∙ get
 module _ (s : Settings) (k : Named) (f : Frame) (source luma : List ℕ) where
   pub luma-shown : (row e : ℕ) (pixels : List ℕ) {r : Bool} → SourceRow (s .channels) f source row pixels → e < f .width →
       r ≡ pixelRight s k (rowPixel (s .channels) pixels e) (getD (part luma (row * f .«luma_stride») (f .width)) e 0) →
-      r ≡ lumaTest s k f (picture (s .channels) (f .«source_stride») source) luma row e
+      r ≡ lumaTest s k f (shown s f source) luma row e
   luma-shown row e pixels p h g =
       let v = part-at luma (row * f .«luma_stride») (f .width) e h in
       g ∙ λ i. pixelRight s k (p .shows .same e h i) (v i)
@@ -55,7 +57,7 @@ second two t e h = e ∙ ap (λ (b : Bool). secondOf b t) h
 module _ (s : Settings) (k : Named) (width height : ℕ) (px : Picture) (t u : ℕ) (two : Bool) (top low : List ℕ)
     (upper : Shows (s .channels) top px t width) (lower : Shows (s .channels) low px u width) where
   element-shown : (row e v : ℕ) → t ≡ topOf (s .subsampling) row → two ≡ twoAt (s .subsampling) height t → u ≡ secondOf two t → e < chromaWidth (s .subsampling) width →
-      elementRight s k width two (rowPixel (s .channels) top) (rowPixel (s .channels) low) e v ≡ chromaRight s k width height px row e v
+      elementRight s k width two (rowPixel (s .channels) top) (rowPixel (s .channels) low) e v ≡ right s k (chromaSample s width height px row e) v
   unfolding elementRight blockRight
   element-shown row e v et eb eu h =
       let sub = s .subsampling in
@@ -75,9 +77,9 @@ module _ (s : Settings) (k : Named) (f : Frame) (source chroma : List ℕ) where
   pub chroma-shown : (row e t u : ℕ) (two : Bool) (top low : List ℕ) {r : Bool} → t ≡ topOf (s .subsampling) row → two ≡ twoAt (s .subsampling) (f .height) t → u ≡ secondOf two t →
       SourceRow (s .channels) f source t top → SourceRow (s .channels) f source u low → (d : ℕ) → d ≡ chromaWidth (s .subsampling) (f .width) → e < d →
       r ≡ elementRight s k (f .width) two (rowPixel (s .channels) top) (rowPixel (s .channels) low) e (getD (part chroma (row * f .«chroma_stride») d) e 0) →
-      r ≡ chromaTest s k f (picture (s .channels) (f .«source_stride») source) chroma row e
+      r ≡ chromaTest s k f (shown s f source) chroma row e
   chroma-shown row e t u two top low et eb eu upper lower d q l g =
-      let px = picture (s .channels) (f .«source_stride») source in
+      let px = shown s f source in
       g
       ∙ element-shown s k (f .width) (f .height) px t u two top low (upper .shows) (lower .shows) row e _ et eb eu (subst (λ (m : ℕ). e < m) q l)
-      ∙ ap (chromaRight s k (f .width) (f .height) px row e) (part-at chroma (row * f .«chroma_stride») d e l)
+      ∙ ap (right s k (chromaSample s (f .width) (f .height) px row e)) (part-at chroma (row * f .«chroma_stride») d e l)

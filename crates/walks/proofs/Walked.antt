@@ -1,13 +1,10 @@
 -- What a walk has passed, one step at a time, for any test of a plane's samples. Assumes nothing.
-use mathlib.Core.Path.{_≡_, subst}
+use mathlib.Core.Path.{_≡_}
 use mathlib.Core.Bool.{true, false}
 use Prim.Native.Nat.{ℕ, _+_, _≤_, _<_}
 use native.Mathlib.Omega.{arith}
 use borrow.Author.Count.{below-more}
-use Rattle.rules.specs.Check.{Test, Clean, FirstWrong}
-use Rattle.walks.specs.declared.Found.{Found}
-use Rattle.walks.specs.declared.Found.the-variants.{Nothing, At}
-use Rattle.walks.specs.Walks.{Finds}
+use Rattle.rules.specs.Search.{Test, Clean, FirstWrong}
 
 -- the first n samples of a row are right
 pub record CleanRow (t : Test) (row n : ℕ) : Type 0 where
@@ -33,11 +30,3 @@ module _ {t : Test} where
 
     pub first-wrong : {h row e : ℕ} → row < h → e < wide → Clean t wide row → CleanRow t row e → t row e ≡ false → FirstWrong t wide h row e
     first-wrong b i k r w = record { below = b; inside = i; wrong = w; above = k; before = r .clean }
-
--- ---- what a walk found
-module _ {t : Test} {wide h : ℕ} {r : Found} where
-  pub found-nothing : r ≡ Nothing → Finds t wide h r → Clean t wide h
-  found-nothing e k = subst (Finds t wide h) e k
-
-  pub found-at : {row element : ℕ} → r ≡ At row element → Finds t wide h r → FirstWrong t wide h row element
-  found-at e k = subst (Finds t wide h) e k

@@ -1,4 +1,5 @@
 // The walks through the two planes, row by row and element by element, each left at the first wrong sample.
+ghost use mathlib.Core.Path.{_≡_};
 ghost use Prim.Native.Nat.{_*_};
 ghost use lib.ListN.{length};
 ghost use Rattle.rules.specs.Channels.{count};
@@ -7,20 +8,15 @@ ghost use Rattle.rule_laws.specs.Usable.{Reach};
 ghost use Rattle.frames.specs.Rows.{Rows};
 ghost use Rattle.frames.specs.Tests.{Sized};
 ghost use Rattle.check_limits.specs.Limits.{LimitsOf};
-ghost use Rattle.walks.specs.Walks.{FindsInLuma, FindsInChroma};
+ghost use Rattle.walks.specs.Walks.{wrongLuma, wrongChroma};
 use check_limits::SettingsLimits;
 use frames::rows;
 use row_check::passed;
 use rules::Frame;
 use rules::Named;
+use rules::Search;
 use rules::Settings;
 use sample_check::row;
-
-// What a walk yields: nothing wrong, or the row and the element of the first wrong sample.
-pub enum Found {
-    Nothing,
-    At(usize, usize),
-}
 
 // Through luma: each element is judged by the pixel of its column.
 pub fn walk_luma(
@@ -30,12 +26,12 @@ pub fn walk_luma(
     f: Frame,
     source: &[u16],
     luma: &[u16],
-) -> Found
+) -> Search
     requires { ⌜ (Reach s) × (LimitsOf s k limits) ⌝ }
     requires { ⌜ Sized f ⌝ }
     requires { ⌜ Rows (length (now source)) (f .«source_stride») (f .width * count (s .channels)) (f .height) ⌝ }
     requires { ⌜ Rows (length (now luma)) (f .«luma_stride») (f .width) (f .height) ⌝ }
-    ensures { λ r. ⌜ FindsInLuma s k f (now (source .entry)) (now (luma .entry)) r ⌝ }
+    ensures { λ r. ⌜ r ≡ wrongLuma s k f (now (source .entry)) (now (luma .entry)) ⌝ }
 {
     let channels = s.channels;
     let width = f.width;
@@ -44,7 +40,7 @@ pub fn walk_luma(
     let mut row = 0;
     'walk: loop {
         if row == height {
-            break 'walk Found::Nothing;
+            break 'walk Search::Nothing;
         }
         let pixels = rows::source_row(channels, f, source, row);
         let from = row * stride;
@@ -53,7 +49,7 @@ pub fn walk_luma(
         let passed = passed::luma_passed(s, k, limits, width, pixels, samples);
         for column in passed..width {
             if !row::luma_at(s, k, limits, width, pixels, samples, column) {
-                break 'walk Found::At(row, column);
+                break 'walk Search::At(row, column);
             }
         }
         row += 1;
@@ -68,12 +64,12 @@ pub fn walk_chroma(
     f: Frame,
     source: &[u16],
     chroma: &[u16],
-) -> Found
+) -> Search
     requires { ⌜ (Reach s) × (LimitsOf s k limits) ⌝ }
     requires { ⌜ Sized f ⌝ }
     requires { ⌜ Rows (length (now source)) (f .«source_stride») (f .width * count (s .channels)) (f .height) ⌝ }
     requires { ⌜ Rows (length (now chroma)) (f .«chroma_stride») (chromaWidth (s .subsampling) (f .width)) (chromaHeight (s .subsampling) (f .height)) ⌝ }
-    ensures { λ r. ⌜ FindsInChroma s k f (now (source .entry)) (now (chroma .entry)) r ⌝ }
+    ensures { λ r. ⌜ r ≡ wrongChroma s k f (now (source .entry)) (now (chroma .entry)) ⌝ }
 {
     let channels = s.channels;
     let subsampling = s.subsampling;
@@ -85,7 +81,7 @@ pub fn walk_chroma(
     let mut row = 0;
     'walk: loop {
         if row == rows {
-            break 'walk Found::Nothing;
+            break 'walk Search::Nothing;
         }
         let t = blocks::top(subsampling, row);
         let two = blocks::two(subsampling, height, t);
@@ -97,7 +93,7 @@ pub fn walk_chroma(
         let passed = passed::chroma_passed(s, k, limits, width, two, top, low, samples);
         for element in passed..wide {
             if !row::chroma_at(s, k, limits, width, two, top, low, samples, element) {
-                break 'walk Found::At(row, element);
+                break 'walk Search::At(row, element);
             }
         }
         row += 1;

@@ -1,6 +1,8 @@
 -- `frame_check::check_settled` meets its contract. Assumes nothing.
 use borrow.Author.Needs.{needs}
-use Rattle.walks.proofs.Walked.{found-nothing, found-at}
+use mathlib.Core.Path.{sym, _∙_}
+use Rattle.rules.specs.declared.Search.the-variants.{Nothing}
+use Rattle.frame_check.proofs.Joined.{luma-wrong, chroma-wrong, both-right}
 use Rattle.frame_check.proofs.check_settled.Statement.{statement}
 use Rattle.frame_check.proofs.check_settled.Tie as tie
 
@@ -8,13 +10,16 @@ limits-of-requires : tie.Need-limits-of-requires
 limits-of-requires c κs = search needs
 
 walk-luma-requires : tie.Need-walk-luma-requires
-walk-luma-requires c κs = search needs
+walk-luma-requires c κs =
+    let b = c .before .before .before .before in
+    let r = b .pre .1 .1 in
+    ((b .pre .0, c .limits-of .ensures), (r .sized, (r .laid .source, r .laid .luma)))
 
 enum-known-in-luma : tie.Need-enum-known-in-luma
 enum-known-in-luma c = search needs
 
 returns : tie.Need-returns
-returns c = let y = c .before in found-at (y .in-luma .given .1) (y .before .before .walk-luma .ensures)
+returns c = let y = c .before in luma-wrong {c = Nothing} (sym (y .before .before .walk-luma .ensures) ∙ y .in-luma .given .1)
 
 enum-told : tie.Need-enum-told
 enum-told c = search needs
@@ -23,7 +28,8 @@ walk-chroma-requires : tie.Need-walk-chroma-requires
 walk-chroma-requires c κs =
     let j = c .before .before .before in
     let b = j .before .before .before .before in
-    ((b .pre .0, j .limits-of .ensures), (b .pre .1 .1 .0, (b .pre .1 .1 .1 .0, b .pre .1 .1 .1 .1 .1)))
+    let r = b .pre .1 .1 in
+    ((b .pre .0, j .limits-of .ensures), (r .sized, (r .laid .source, r .laid .chroma)))
 
 enum-known-in-chroma : tie.Need-enum-known-in-chroma
 enum-known-in-chroma c = search needs
@@ -33,7 +39,7 @@ returns-2 c =
     let k = c .before in
     let w = k .before .before in
     let n = w .before in
-    (found-nothing (n .enum-told .given .1) (n .before .before .walk-luma .ensures), found-at (k .in-chroma .given .1) (w .walk-chroma .ensures))
+    chroma-wrong (sym (n .before .before .walk-luma .ensures) ∙ n .enum-told .given .1) (sym (w .walk-chroma .ensures) ∙ k .in-chroma .given .1)
 
 enum-told-2 : tie.Need-enum-told-2
 enum-told-2 c = search needs
@@ -42,7 +48,7 @@ returns-3 : tie.Need-returns-3
 returns-3 c =
     let w = c .before .before in
     let n = w .before in
-    (found-nothing (n .enum-told .given .1) (n .before .before .walk-luma .ensures), found-nothing (c .enum-told2 .given .1) (w .walk-chroma .ensures))
+    both-right (sym (n .before .before .walk-luma .ensures) ∙ n .enum-told .given .1) (sym (w .walk-chroma .ensures) ∙ c .enum-told2 .given .1)
 
 pub check-settled-spec : {M : Type 1} → statement M
 check-settled-spec =

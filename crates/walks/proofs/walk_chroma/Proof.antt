@@ -8,9 +8,12 @@ use Prim.Native.Nat.{ℕ, _-_, _*_, _≤_, _<_}
 use native.Mathlib.Omega.{arith}
 use native.Mathlib.Nat.{lt-of-lt-of-le}
 use lib.ListN.{length, getD}
-use Rattle.rules.specs.Channels.{count, picture}
+use Rattle.rules.specs.Channels.{count}
 use Rattle.rules.specs.Blocks.{chromaWidth, chromaHeight}
-use Rattle.rules.specs.Check.{Clean, chromaTest}
+use Rattle.rules.specs.Search.{Clean}
+use Rattle.rules.specs.Frames.{shown}
+use Rattle.rules.specs.Check.{chromaTest}
+use Rattle.plane_laws.proofs.Searches as searches
 use Rattle.blocks.proofs.Tiles.{height-small, top-below, two-below, second-below}
 use Rattle.frames.specs.Rows.{rowPixel}
 use Rattle.sample_check.specs.Samples.{elementRight}
@@ -21,7 +24,7 @@ use Rattle.walks.proofs.walk_chroma.Tie as tie
 
 abbrev Inv-loop : tie.InvT-loop
 Inv-loop s k limits f source chroma channels subsampling width height stride wide rows row t two top low from to samples passed element₀ element =
-    (element ≤ chromaWidth (s .subsampling) (f .width)) × CleanRow (chromaTest s k f (picture (s .channels) (f .«source_stride») source) chroma) row element
+    (element ≤ chromaWidth (s .subsampling) (f .width)) × CleanRow (chromaTest s k f (shown s f source) chroma) row element
 
 abbrev μ-loop : tie.MeasureT-loop
 μ-loop s k limits f source chroma channels subsampling width height stride wide rows row t two top low from to samples passed element₀ element =
@@ -29,7 +32,7 @@ abbrev μ-loop : tie.MeasureT-loop
 
 abbrev Inv-walk : tie.InvT-walk
 Inv-walk s k limits f source chroma channels subsampling width height stride wide rows row₀ row =
-    (row ≤ chromaHeight (s .subsampling) (f .height)) × Clean (chromaTest s k f (picture (s .channels) (f .«source_stride») source) chroma) (chromaWidth (s .subsampling) (f .width)) row
+    (row ≤ chromaHeight (s .subsampling) (f .height)) × Clean (chromaTest s k f (shown s f source) chroma) (chromaWidth (s .subsampling) (f .width)) row
 
 abbrev μ-walk : tie.MeasureT-walk
 μ-walk s k limits f source chroma channels subsampling width height stride wide rows row₀ row = chromaHeight (s .subsampling) (f .height) - row
@@ -132,12 +135,12 @@ chroma-long c =
     part-long (a .chroma .now) (e .before .walk .row * a .f .«chroma_stride») (d .chroma-width .result) (samples-part e .end)
 
 -- what a test of an element of the row parts says, of the buffers
-shown : (c : tie.After-samples Inv-loop μ-loop Inv-walk μ-walk) (e : ℕ) {r : Bool} → let o = c .before .before .before .before in let w = o .before .before .before in let a = w .before .before .before .before .before .args in
+tested : (c : tie.After-samples Inv-loop μ-loop Inv-walk μ-walk) (e : ℕ) {r : Bool} → let o = c .before .before .before .before in let w = o .before .before .before in let a = w .before .before .before .before .before .args in
     e < w .before .before .chroma-width .result →
     r ≡ elementRight (a .s) (a .k) (a .f .width) (o .two .result) (rowPixel (a .s .channels) (topRow c)) (rowPixel (a .s .channels) (lowRow c)) e (getD (chromaRow c) e 0) →
-    r ≡ chromaTest (a .s) (a .k) (a .f) (picture (a .s .channels) (a .f .«source_stride») (a .source .now)) (a .chroma .now) (w .walk .row) e
+    r ≡ chromaTest (a .s) (a .k) (a .f) (shown (a .s) (a .f) (a .source .now)) (a .chroma .now) (w .walk .row) e
 unfolding topRow lowRow chromaRow
-shown c e h q =
+tested c e h q =
     let l = c .before .before in
     let o = l .before .before in
     let t = o .before in
@@ -160,7 +163,7 @@ loop-holds c =
     let s = c .before in
     let d = s .before .before .before .before .before .before .before .before .before in
     let p = c .chroma-passed .ensures in
-    (p .most, record { clean = λ e h. sym (shown s e (subst (λ (n : ℕ). e < n) (sym (d .chroma-width .ensures)) (lt-of-lt-of-le h (p .most))) (sym (p .right e h))) })
+    (p .most, record { clean = λ e h. sym (tested s e (subst (λ (n : ℕ). e < n) (sym (d .chroma-width .ensures)) (lt-of-lt-of-le h (p .most))) (sym (p .right e h))) })
 
 chroma-at-requires : tie.Need-chroma-at-requires Inv-loop μ-loop Inv-walk μ-walk
 unfolding topRow lowRow chromaRow
@@ -174,9 +177,9 @@ chroma-at-requires c κs =
 
 -- and what this element's says
 judged : (c : tie.After-chroma-at Inv-loop μ-loop Inv-walk μ-walk) → let w = c .before .before .before .before .before .before .before .before .before .before .before in let a = w .before .before .before .before .before .args in
-    c .chroma-at .result ≡ chromaTest (a .s) (a .k) (a .f) (picture (a .s .channels) (a .f .«source_stride») (a .source .now)) (a .chroma .now) (w .walk .row) (c .before .before .loop .element)
+    c .chroma-at .result ≡ chromaTest (a .s) (a .k) (a .f) (shown (a .s) (a .f) (a .source .now)) (a .chroma .now) (w .walk .row) (c .before .before .loop .element)
 unfolding topRow lowRow chromaRow
-judged c = shown (c .before .before .before .before) (c .before .before .loop .element) (c .before .loop-test .taken) (c .chroma-at .ensures)
+judged c = tested (c .before .before .before .before) (c .before .before .loop .element) (c .before .loop-test .taken) (c .chroma-at .ensures)
 
 add-element : tie.Need-add-element Inv-loop μ-loop Inv-walk μ-walk
 add-element c = search needs
@@ -199,13 +202,13 @@ walk-again c =
     (omega (arith, in-rows (c .before .before .before .before .before .before .before .before .before)), clean-more (w .walk .inv .1) (c .before .loop .inv .1) (omega (arith, c .loop-test .left, w .before .before .chroma-width .ensures)))
 
 returns : tie.Need-returns Inv-loop μ-loop Inv-walk μ-walk
-returns c = clean-all (c .before .walk .inv .1) (c .if1 .taken ∙ c .before .before .chroma-height .ensures)
+returns c = sym (searches.clean-none _ _ _ (clean-all (c .before .walk .inv .1) (c .if1 .taken ∙ c .before .before .chroma-height .ensures)))
 
 returns-2 : tie.Need-returns-2 Inv-loop μ-loop Inv-walk μ-walk
 returns-2 c =
     let i = c .before .before in
     let t = i .before .before .before .before .before .before .before .before .before in
-    first-wrong (in-rows t) (omega (arith, i .loop-test .taken, t .before .before .before .chroma-width .ensures)) (t .before .walk .inv .1) (i .before .loop .inv .1) (sym (judged (c .before)) ∙ not-true _ (c .if2 .taken))
+    sym (searches.first-found _ _ _ _ _ (first-wrong (in-rows t) (omega (arith, i .loop-test .taken, t .before .before .before .chroma-width .ensures)) (t .before .walk .inv .1) (i .before .loop .inv .1) (sym (judged (c .before)) ∙ not-true _ (c .if2 .taken))))
 
 pub walk-chroma-spec : {M : Type 1} → statement M
 walk-chroma-spec =

@@ -8,8 +8,11 @@ use Prim.Native.Nat.{ℕ, _-_, _*_, _≤_, _<_}
 use native.Mathlib.Omega.{arith}
 use native.Mathlib.Nat.{lt-of-lt-of-le}
 use lib.ListN.{length, getD}
-use Rattle.rules.specs.Channels.{count, picture}
-use Rattle.rules.specs.Check.{Clean, lumaTest}
+use Rattle.rules.specs.Channels.{count}
+use Rattle.rules.specs.Search.{Clean}
+use Rattle.rules.specs.Frames.{shown}
+use Rattle.rules.specs.Check.{lumaTest}
+use Rattle.plane_laws.proofs.Searches as searches
 use Rattle.frames.specs.Rows.{rowPixel}
 use Rattle.sample_check.specs.Samples.{pixelRight}
 use Rattle.walks.proofs.Walked.{CleanRow, row-more, clean-none, clean-more, clean-all, first-wrong}
@@ -19,14 +22,14 @@ use Rattle.walks.proofs.walk_luma.Tie as tie
 
 abbrev Inv-loop : tie.InvT-loop
 Inv-loop s k limits f source luma channels width height stride row pixels from to samples passed column₀ column =
-    (column ≤ f .width) × CleanRow (lumaTest s k f (picture (s .channels) (f .«source_stride») source) luma) row column
+    (column ≤ f .width) × CleanRow (lumaTest s k f (shown s f source) luma) row column
 
 abbrev μ-loop : tie.MeasureT-loop
 μ-loop s k limits f source luma channels width height stride row pixels from to samples passed column₀ column = f .width - column
 
 abbrev Inv-walk : tie.InvT-walk
 Inv-walk s k limits f source luma channels width height stride row₀ row =
-    (row ≤ f .height) × Clean (lumaTest s k f (picture (s .channels) (f .«source_stride») source) luma) (f .width) row
+    (row ≤ f .height) × Clean (lumaTest s k f (shown s f source) luma) (f .width) row
 
 abbrev μ-walk : tie.MeasureT-walk
 μ-walk s k limits f source luma channels width height stride row₀ row = f .height - row
@@ -80,12 +83,12 @@ long c =
     (omega (arith, samples), omega (arith, c .before .source-row .ensures .long))
 
 -- what a test of an element of the row parts says, of the buffers
-shown : (c : tie.After-samples Inv-loop μ-loop Inv-walk μ-walk) (e : ℕ) {r : Bool} → let w = c .before .before .before in let a = w .before .before .before .args in
+tested : (c : tie.After-samples Inv-loop μ-loop Inv-walk μ-walk) (e : ℕ) {r : Bool} → let w = c .before .before .before in let a = w .before .before .before .args in
     e < a .f .width →
     r ≡ pixelRight (a .s) (a .k) (rowPixel (a .s .channels) (pixels c) e) (getD (part (a .luma .now) (w .walk .row * a .f .«luma_stride») (a .f .width)) e 0) →
-    r ≡ lumaTest (a .s) (a .k) (a .f) (picture (a .s .channels) (a .f .«source_stride») (a .source .now)) (a .luma .now) (w .walk .row) e
+    r ≡ lumaTest (a .s) (a .k) (a .f) (shown (a .s) (a .f) (a .source .now)) (a .luma .now) (w .walk .row) e
 unfolding pixels
-shown c e h q =
+tested c e h q =
     let w = c .before .before .before in
     let a = w .before .before .before .args in
     luma-shown (a .s) (a .k) (a .f) (a .source .now) (a .luma .now) (w .walk .row) e (pixels c) (c .before .source-row .ensures) h q
@@ -96,7 +99,7 @@ luma-passed-requires c κs = (c .before .before .before .before .before .before 
 
 loop-holds : tie.Need-loop-holds Inv-loop μ-loop Inv-walk μ-walk
 unfolding pixels
-loop-holds c = let p = c .luma-passed .ensures in (p .most, record { clean = λ e h. sym (shown (c .before) e (lt-of-lt-of-le h (p .most)) (sym (p .right e h))) })
+loop-holds c = let p = c .luma-passed .ensures in (p .most, record { clean = λ e h. sym (tested (c .before) e (lt-of-lt-of-le h (p .most)) (sym (p .right e h))) })
 
 luma-at-requires : tie.Need-luma-at-requires Inv-loop μ-loop Inv-walk μ-walk
 unfolding pixels
@@ -108,9 +111,9 @@ luma-at-requires c κs =
 
 -- and what this element's says
 judged : (c : tie.After-luma-at Inv-loop μ-loop Inv-walk μ-walk) → let w = c .before .before .before .before .before .before .before in let a = w .before .before .before .args in
-    c .luma-at .result ≡ lumaTest (a .s) (a .k) (a .f) (picture (a .s .channels) (a .f .«source_stride») (a .source .now)) (a .luma .now) (w .walk .row) (c .before .before .loop .column)
+    c .luma-at .result ≡ lumaTest (a .s) (a .k) (a .f) (shown (a .s) (a .f) (a .source .now)) (a .luma .now) (w .walk .row) (c .before .before .loop .column)
 unfolding pixels
-judged c = shown (c .before .before .before .before) (c .before .before .loop .column) (c .before .loop-test .taken) (c .luma-at .ensures)
+judged c = tested (c .before .before .before .before) (c .before .before .loop .column) (c .before .loop-test .taken) (c .luma-at .ensures)
 
 add-column : tie.Need-add-column Inv-loop μ-loop Inv-walk μ-walk
 add-column c = search needs
@@ -131,13 +134,13 @@ walk-again : tie.Need-walk-again Inv-loop μ-loop Inv-walk μ-walk
 walk-again c = (omega arith, clean-more (c .before .before .before .before .before .before .walk .inv .1) (c .before .loop .inv .1) (c .loop-test .left))
 
 returns : tie.Need-returns Inv-loop μ-loop Inv-walk μ-walk
-returns c = clean-all (c .before .walk .inv .1) (c .if1 .taken)
+returns c = sym (searches.clean-none _ _ _ (clean-all (c .before .walk .inv .1) (c .if1 .taken)))
 
 returns-2 : tie.Need-returns-2 Inv-loop μ-loop Inv-walk μ-walk
 returns-2 c =
     let i = c .before .before in
     let t = i .before .before .before .before .before in
-    first-wrong (omega (arith, t .before .walk .inv .0, t .if1 .left)) (i .loop-test .taken) (t .before .walk .inv .1) (i .before .loop .inv .1) (sym (judged (c .before)) ∙ not-true _ (c .if2 .taken))
+    sym (searches.first-found _ _ _ _ _ (first-wrong (omega (arith, t .before .walk .inv .0, t .if1 .left)) (i .loop-test .taken) (t .before .walk .inv .1) (i .before .loop .inv .1) (sym (judged (c .before)) ∙ not-true _ (c .if2 .taken))))
 
 pub walk-luma-spec : {M : Type 1} → statement M
 walk-luma-spec =
