@@ -19,6 +19,9 @@ mod ours;
 #[path = "../../compare/beside/src/random.rs"]
 #[allow(dead_code)]
 mod random;
+#[path = "../../rust/src/raw.rs"]
+#[allow(dead_code)]
+mod raw;
 #[path = "../../compare/beside/src/settings.rs"]
 #[allow(dead_code)]
 mod settings;

@@ -1,5 +1,5 @@
 //! The third service: a recorded frame checked.
-use crate::{ffi, Frame, Refusal, Settings};
+use crate::{raw, Frame, Refusal, Settings};
 
 /// What a check says of a recorded frame.
 #[derive(Debug, Clone, Copy, PartialEq, Eq, Hash)]
@@ -53,7 +53,7 @@ pub fn check(
     luma: &[u16],
     chroma: &[u16],
 ) -> Result<Checked, Refusal> {
-    let checked = ffi::check(settings, frame, source, luma, chroma);
+    let checked = raw::check(settings.into(), *frame, source, luma, chroma);
     Refusal::answered(checked.refusal)?;
     Ok(match checked.wrong {
         0 => Checked::Accepted,

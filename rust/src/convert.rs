@@ -1,5 +1,5 @@
 //! The second service: a frame converted.
-use crate::{ffi, Frame, Refusal, Settings};
+use crate::{raw, Frame, Refusal, Settings};
 
 /// Writes both planes of the frame, or gives the first refusal that applies and touches neither.
 ///
@@ -32,5 +32,6 @@ pub fn convert(
     luma: &mut [u16],
     chroma: &mut [u16],
 ) -> Result<(), Refusal> {
-    Refusal::answered(ffi::convert(settings, frame, source, luma, chroma))
+    let number = raw::convert(settings.into(), *frame, source, luma, chroma);
+    Refusal::answered(number)
 }

@@ -1,24 +1,5 @@
-//! The size of a frame and the layout of its three buffers.
-use crate::settings::{Settings, YuvChromaSubsampling};
-
-/// A frame's size in pixels, and the strides of its buffers in u16 elements.
-///
-/// Elements past the visible ones of a row are padding: never read in the source, never written in a plane.
-// The library takes a frame in this layout.
-#[repr(C)]
-#[derive(Debug, Clone, Copy, PartialEq, Eq)]
-pub struct Frame {
-    /// Pixels in a row: 1 to 16,384.
-    pub width: usize,
-    /// Rows: 1 to 16,384.
-    pub height: usize,
-    /// From one source row to the next: at most 65,536, as are the other two.
-    pub source_stride: usize,
-    /// From one luma row to the next.
-    pub luma_stride: usize,
-    /// From one chroma row to the next.
-    pub chroma_stride: usize,
-}
+//! The lengths of a frame's three buffers, and frames without padding.
+use crate::{Frame, Settings, YuvChromaSubsampling};
 
 /// The exact lengths of a frame's buffers in u16 elements.
 #[derive(Debug, Clone, Copy, PartialEq, Eq)]

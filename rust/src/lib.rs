@@ -134,11 +134,12 @@
 
 mod check;
 mod convert;
-#[allow(unsafe_code)]
-mod ffi;
 mod frame;
 mod image;
 pub mod names;
+mod numbers;
+#[allow(unsafe_code)]
+mod raw;
 mod refusal;
 mod settings;
 mod settle;
@@ -146,9 +147,10 @@ mod weights;
 
 pub use check::{check, Checked, Place, Plane};
 pub use convert::convert;
-pub use frame::{Frame, Lengths};
+pub use frame::Lengths;
 pub use image::YuvBiPlanarImageMut;
 pub use names::*;
+pub use raw::Frame;
 pub use refusal::Refusal;
 pub use settings::{
     Settings, YuvBytesPacking, YuvChromaSubsampling, YuvEndianness, YuvNVOrder, YuvRange,

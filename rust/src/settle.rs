@@ -1,5 +1,5 @@
 //! The first service: settings settled.
-use crate::{ffi, Refusal, Settings, Weights};
+use crate::{raw, Refusal, Settings, Weights};
 
 /// The nine integer weights of the settings, or the first of refusals 1 to 5 that applies.
 ///
@@ -24,7 +24,7 @@ use crate::{ffi, Refusal, Settings, Weights};
 /// # Ok::<(), Refusal>(())
 /// ```
 pub fn settle(settings: &Settings) -> Result<Weights, Refusal> {
-    let settled = ffi::settle(settings);
+    let settled = raw::settle(settings.into());
     Refusal::answered(settled.refusal)?;
-    Ok(settled.weights)
+    Ok(Weights::of(settled.weights))
 }

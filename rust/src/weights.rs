@@ -1,8 +1,6 @@
 //! The nine weights of settled settings.
 
 /// The weights of red, green and blue in luma, Cb and Cr, times 2^P, as whole numbers.
-// The library answers in this layout.
-#[repr(C)]
 #[derive(Debug, Clone, Copy, PartialEq, Eq, Hash)]
 pub struct Weights {
     /// Red in luma.
@@ -23,4 +21,21 @@ pub struct Weights {
     pub cr_g: i32,
     /// Blue in Cr.
     pub cr_b: i32,
+}
+
+impl Weights {
+    /// From the library's order.
+    pub(crate) const fn of([yr, yg, yb, cb_r, cb_g, cb_b, cr_r, cr_g, cr_b]: [i32; 9]) -> Weights {
+        Weights {
+            yr,
+            yg,
+            yb,
+            cb_r,
+            cb_g,
+            cb_b,
+            cr_r,
+            cr_g,
+            cr_b,
+        }
+    }
 }

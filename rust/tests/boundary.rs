@@ -2,4 +2,7 @@
 //!
 //! `cargo test --release boundary -- --nocapture` prints how often each answer was reached.
 mod calls;
+#[path = "../src/raw.rs"]
+#[allow(dead_code)]
+mod raw;
 mod reference;

@@ -1,16 +1,7 @@
-//! The sizes of a frame, laid out as the library takes them, and its planes.
+//! The sizes of a frame, and its planes.
+pub use crate::raw::Frame;
 use crate::settings::Settings;
 use std::fmt;
-
-#[repr(C)]
-#[derive(Clone, Copy)]
-pub struct Frame {
-    pub width: usize,
-    pub height: usize,
-    pub source_stride: usize,
-    pub luma_stride: usize,
-    pub chroma_stride: usize,
-}
 
 impl Frame {
     /// A frame with so many elements of padding in each row of the source, the luma plane and the chroma plane.

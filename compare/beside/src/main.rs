@@ -19,6 +19,9 @@ mod frame;
 mod matrices;
 mod ours;
 mod random;
+#[path = "../../../rust/src/raw.rs"]
+#[allow(dead_code)]
+mod raw;
 mod refusals;
 mod replay;
 mod settings;

@@ -1,24 +1,9 @@
-//! The settings of a conversion, laid out as the library takes them.
+//! The settings of a conversion by numbers, and what the numbers stand for.
+pub use crate::raw::SettingsNumbers as Settings;
 use std::fmt;
 
 pub const CUSTOM: u32 = 5;
 pub const SMPTE240: u32 = 3;
-
-#[repr(C)]
-#[derive(Clone, Copy)]
-pub struct Settings {
-    pub depth: u32,
-    pub precision: u32,
-    pub matrix: u32,
-    pub kr: f32,
-    pub kb: f32,
-    pub range: u32,
-    pub subsampling: u32,
-    pub order: u32,
-    pub packing: u32,
-    pub byte_order: u32,
-    pub channels: u32,
-}
 
 pub const CHANNELS: [&str; 4] = ["Rgb", "Rgba", "Bgra", "Bgr"];
 pub const SUBSAMPLINGS: [&str; 3] = ["4:2:0", "4:2:2", "4:4:4"];

@@ -1,7 +1,7 @@
 //! The library asked, by the crate's functions or by raw calls, with answers as the reference gives them.
 use super::call::Call;
 use super::random::Random;
-use super::raw;
+use crate::raw;
 use crate::reference::{Frame, Sample, Settings};
 use ayresokum::{
     Checked, Plane, Refusal, Weights, YuvBytesPacking, YuvChromaSubsampling, YuvEndianness,
@@ -80,28 +80,23 @@ pub fn settle(by: By, settings: &Settings) -> Result<[[i128; 3]; 3], u32> {
             settled.map(|w| rows(nine(w))).map_err(Refusal::number)
         }
         By::Raw => {
-            let (refusal, weights) = raw::settle(settings);
+            let settled = raw::settle(*settings);
             assert!(
-                refusal == 0 || weights == [0; 9],
+                settled.refusal == 0 || settled.weights == [0; 9],
                 "weights with a refusal: {settings:?}"
             );
-            answer(refusal, rows(weights))
+            answer(settled.refusal, rows(settled.weights))
         }
     }
 }
 
 pub fn convert(by: By, call: &mut Call) -> Result<(), u32> {
-    let Call {
-        settings,
-        frame,
-        source,
-        luma,
-        chroma,
-    } = call;
+    let (settings, frame) = (call.settings, call.frame);
+    let (source, luma, chroma) = (&call.source, &mut call.luma, &mut call.chroma);
     match by {
         By::Crate => {
-            let converted =
-                ayresokum::convert(&meant(settings), &meant_frame(frame), source, luma, chroma);
+            let (settings, frame) = (meant(&settings), meant_frame(&frame));
+            let converted = ayresokum::convert(&settings, &frame, source, luma, chroma);
             converted.map_err(Refusal::number)
         }
         By::Raw => answer(raw::convert(settings, frame, source, luma, chroma), ()),
@@ -120,7 +115,7 @@ fn sample(place: ayresokum::Place) -> Sample {
     }
 }
 
-fn raw_sample(checked: raw::Checked) -> Option<Sample> {
+fn raw_sample(checked: raw::CheckedNumbers) -> Option<Sample> {
     let [wrong, plane, row, element] =
         [checked.wrong, checked.plane, checked.row, checked.element].map(|n| n as usize);
     match wrong {
@@ -141,17 +136,12 @@ fn raw_sample(checked: raw::Checked) -> Option<Sample> {
 }
 
 pub fn check(by: By, call: &Call) -> Result<Option<Sample>, u32> {
-    let Call {
-        settings,
-        frame,
-        source,
-        luma,
-        chroma,
-    } = call;
+    let (settings, frame) = (call.settings, call.frame);
+    let (source, luma, chroma) = (&call.source, &call.luma, &call.chroma);
     match by {
         By::Crate => {
-            let checked =
-                ayresokum::check(&meant(settings), &meant_frame(frame), source, luma, chroma);
+            let (settings, frame) = (meant(&settings), meant_frame(&frame));
+            let checked = ayresokum::check(&settings, &frame, source, luma, chroma);
             let named = checked.map(|c| match c {
                 Checked::Accepted => None,
                 Checked::Wrong(place) => Some(sample(place)),

@@ -9,6 +9,5 @@ mod frames;
 mod library;
 mod pairs;
 mod random;
-mod raw;
 mod settings;
 mod settle;

@@ -1,16 +1,5 @@
 //! Rows and lengths of a frame's buffers.
-use super::Settings;
-
-/// In the layout of the C interface.
-#[repr(C)]
-#[derive(Debug, Clone, Copy)]
-pub struct Frame {
-    pub width: usize,
-    pub height: usize,
-    pub source_stride: usize,
-    pub luma_stride: usize,
-    pub chroma_stride: usize,
-}
+use super::{Frame, Settings};
 
 /// Elements of a pixel.
 pub fn pixel_elements(settings: &Settings) -> u128 {

@@ -1,4 +1,5 @@
-//! Document 01 written afresh, for the tests alone. It shares no line with the crate and knows the library by numbers.
+//! Document 01 written afresh, for the tests alone. It shares nothing with the crate but the records of src/raw.rs, and
+//! knows every enumeration by its numbers.
 //!
 //! Weights are worked out in f32 step by step, everything else in whole numbers of 128 bits.
 mod blocks;
@@ -15,10 +16,9 @@ mod settle;
 mod storage;
 mod weights;
 
+pub use crate::raw::{Frame, SettingsNumbers as Settings};
 pub use check::{check, exact_of, Sample};
 pub use convert::convert;
 pub use fractions::{reach, within};
-pub use frame::Frame;
-pub use settings::Settings;
 pub use settle::settle;
 pub use storage::{is_formed, word};

@@ -1,21 +1,5 @@
-//! Settings by numbers, and "for depth d let m = 2^d − 1" with the ranges.
-
-/// In the layout of the C interface, so that tests can hand over any number.
-#[repr(C)]
-#[derive(Debug, Clone, Copy)]
-pub struct Settings {
-    pub depth: u32,
-    pub precision: u32,
-    pub matrix: u32,
-    pub kr: f32,
-    pub kb: f32,
-    pub range: u32,
-    pub subsampling: u32,
-    pub order: u32,
-    pub packing: u32,
-    pub byte_order: u32,
-    pub channels: u32,
-}
+//! "for depth d let m = 2^d − 1", and the ranges.
+use super::Settings;
 
 impl Settings {
     /// Whether each number names a case of its enumeration.

@@ -4,8 +4,9 @@ use super::{at_fifteen, offered, overflow};
 use crate::draw::{self, Samples, FLAT};
 use crate::frame::{Frame, Planes};
 use crate::matrices;
-use crate::ours::{self, Checked};
+use crate::ours;
 use crate::random::Random;
+use crate::raw::CheckedNumbers;
 use crate::settings::{Settings, RANGES};
 use crate::theirs;
 
@@ -21,7 +22,7 @@ struct NotAccepted {
     settings: Settings,
     frame: Frame,
     samples: Samples,
-    checked: Checked,
+    checked: CheckedNumbers,
     has_pixel_outside: bool,
 }
 

@@ -1,0 +1,135 @@
+//! The C interface of the proved library, as include/ayresokum.h declares it. All unsafe code stands here.
+//!
+//! This file uses nothing of the crate: the tests, bench and compare/beside include it too, so that Rust has every record
+//! and function of the interface written once. docs/BOUNDARY.md lists where else they stand.
+
+/// Settings with numbers in place of the enumerations.
+#[repr(C)]
+#[derive(Debug, Clone, Copy)]
+pub struct SettingsNumbers {
+    pub depth: u32,
+    pub precision: u32,
+    pub matrix: u32,
+    pub kr: f32,
+    pub kb: f32,
+    pub range: u32,
+    pub subsampling: u32,
+    pub order: u32,
+    pub packing: u32,
+    pub byte_order: u32,
+    pub channels: u32,
+}
+
+/// A frame's size in pixels, and the strides of its buffers in u16 elements.
+///
+/// Elements past the visible ones of a row are padding: never read in the source, never written in a plane.
+#[repr(C)]
+#[derive(Debug, Clone, Copy, PartialEq, Eq)]
+pub struct Frame {
+    /// Pixels in a row: 1 to 16,384.
+    pub width: usize,
+    /// Rows: 1 to 16,384.
+    pub height: usize,
+    /// From one source row to the next: at most 65,536, as are the other two.
+    pub source_stride: usize,
+    /// From one luma row to the next.
+    pub luma_stride: usize,
+    /// From one chroma row to the next.
+    pub chroma_stride: usize,
+}
+
+/// The refusal's number, or 0, and the weights of red, green and blue in luma, in Cb and in Cr, all 0 on a refusal.
+#[repr(C)]
+#[derive(Debug, Clone, Copy)]
+pub struct SettledNumbers {
+    pub refusal: u32,
+    pub weights: [i32; 9],
+}
+
+/// The refusal's number, or 0; 1 where a sample is wrong; and the place of the first wrong one. What does not apply is 0.
+#[repr(C)]
+#[derive(Debug, Clone, Copy)]
+pub struct CheckedNumbers {
+    pub refusal: u32,
+    pub wrong: u32,
+    pub plane: u32,
+    pub row: u32,
+    pub element: u32,
+}
+
+extern "C" {
+    fn ayresokum_settle(settings: SettingsNumbers) -> SettledNumbers;
+
+    fn ayresokum_convert(
+        settings: SettingsNumbers,
+        frame: Frame,
+        source: *const u16,
+        source_length: usize,
+        luma: *mut u16,
+        luma_length: usize,
+        chroma: *mut u16,
+        chroma_length: usize,
+    ) -> u32;
+
+    fn ayresokum_check(
+        settings: SettingsNumbers,
+        frame: Frame,
+        source: *const u16,
+        source_length: usize,
+        luma: *const u16,
+        luma_length: usize,
+        chroma: *const u16,
+        chroma_length: usize,
+    ) -> CheckedNumbers;
+}
+
+pub fn settle(settings: SettingsNumbers) -> SettledNumbers {
+    // SAFETY: everything is passed by value, in the library's layout.
+    unsafe { ayresokum_settle(settings) }
+}
+
+/// The refusal's number, or 0.
+pub fn convert(
+    settings: SettingsNumbers,
+    frame: Frame,
+    source: &[u16],
+    luma: &mut [u16],
+    chroma: &mut [u16],
+) -> u32 {
+    // SAFETY: each pointer comes from a slice, with the length of that slice, and the slices do not overlap, since two
+    // of them are lent mutably. The library keeps no pointer.
+    unsafe {
+        ayresokum_convert(
+            settings,
+            frame,
+            source.as_ptr(),
+            source.len(),
+            luma.as_mut_ptr(),
+            luma.len(),
+            chroma.as_mut_ptr(),
+            chroma.len(),
+        )
+    }
+}
+
+pub fn check(
+    settings: SettingsNumbers,
+    frame: Frame,
+    source: &[u16],
+    luma: &[u16],
+    chroma: &[u16],
+) -> CheckedNumbers {
+    // SAFETY: each pointer comes from a slice, with the length of that slice. The library writes to none and keeps none.
+    unsafe {
+        ayresokum_check(
+            settings,
+            frame,
+            source.as_ptr(),
+            source.len(),
+            luma.as_ptr(),
+            luma.len(),
+            chroma.as_ptr(),
+            chroma.len(),
+        )
+    }
+}
