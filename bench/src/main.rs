@@ -13,6 +13,8 @@ mod theirs;
 #[path = "../../compare/beside/src/frame.rs"]
 #[allow(dead_code)]
 mod frame;
+#[path = "../../compare/beside/src/image.rs"]
+mod image;
 #[path = "../../compare/beside/src/ours.rs"]
 #[allow(dead_code)]
 mod ours;

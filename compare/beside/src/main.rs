@@ -16,6 +16,7 @@ mod draw;
 mod fault;
 mod fifteen;
 mod frame;
+mod image;
 mod matrices;
 mod ours;
 mod random;

@@ -1,7 +1,8 @@
 //! The crate's side: the same settings and frames, handed to the published loops.
 use crate::frame::{Frame, Planes};
+use crate::image;
 use crate::settings::{Settings, CUSTOM, SMPTE240};
-use published::{Call, Choice, Plane, YuvBiPlanarImageMut, YuvError, YuvRange, YuvStandardMatrix};
+use published::{Call, Choice, YuvError, YuvRange, YuvStandardMatrix};
 
 /// The type that weights are cast to before the loops.
 #[derive(Clone, Copy, PartialEq)]
@@ -56,10 +57,6 @@ fn choice(settings: &Settings, weight_type: WeightType) -> Choice {
     }
 }
 
-fn short(size: usize) -> u32 {
-    u32::try_from(size).expect("the crate takes sizes and strides of 32 bits")
-}
-
 /// The crate's answer, or None where its loops were not built for the settings.
 pub fn convert_with(
     settings: &Settings,
@@ -69,19 +66,11 @@ pub fn convert_with(
     weight_type: WeightType,
     checks: PlaneChecks,
 ) -> Option<Result<(), YuvError>> {
-    let mut image = YuvBiPlanarImageMut {
-        y_plane: Plane(&mut planes.luma),
-        y_stride: short(frame.luma_stride),
-        uv_plane: Plane(&mut planes.chroma),
-        uv_stride: short(frame.chroma_stride),
-        width: short(frame.width),
-        height: short(frame.height),
-        is_checked: checks == PlaneChecks::Asked,
-    };
+    let mut image = image::of(frame, planes, checks == PlaneChecks::Asked);
     let call = Call {
         image: &mut image,
         source,
-        source_stride: short(frame.source_stride),
+        source_stride: image::short(frame.source_stride),
         range: range(settings),
         matrix: matrix(settings),
     };
