@@ -2,7 +2,8 @@
 # make demo      a temper-colour ramp converted, checked, spoiled and checked again
 # make examples  the programs of examples/, and the header as C99 and as C++17
 # make outputs   what the programs have to print, worked out afresh from document 01 (compare/*.py)
-# make test      the examples, the calls from Python, the programs' outputs, and the tests of the Rust crate where cargo is there
+# make test      the examples, the declarations of the exported functions held against each other, the calls from Python, the programs'
+#                outputs, and the tests of the Rust crate where cargo is there
 # All but outputs need the Rattle kit (rt) and a C compiler.
 CC ?= cc
 CXX ?= c++
@@ -40,6 +41,7 @@ outputs:
 	python3 compare/exports.py crates/run_exports/stdout
 
 test: examples outputs build/libayresokum.so
+	python3 compare/boundary.py
 	python3 compare/calls.py
 	! command -v cargo > /dev/null || (cd rust && AYRESOKUM_LIB=$(CURDIR)/build cargo test --offline --release)
 

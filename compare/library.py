@@ -24,18 +24,25 @@ class Checked(ctypes.Structure):
     _fields_ = [(name, ctypes.c_uint32) for name in ('refusal', 'wrong', 'plane', 'row', 'element')]
 
 
+SAMPLES = [ctypes.POINTER(ctypes.c_uint16), ctypes.c_size_t]
+
+# What each exported function takes, and what it answers.
+EXPORTED = {
+    'ayresokum_settle': ([Settings], Settled),
+    'ayresokum_convert': ([Settings, Frame] + SAMPLES * 3, ctypes.c_uint32),
+    'ayresokum_check': ([Settings, Frame] + SAMPLES * 3, Checked),
+}
+
+
 class Library:
     def __init__(self):
         self.calls = ctypes.CDLL(PATH)
-        self.calls.ayresokum_settle.argtypes = [Settings]
-        self.calls.ayresokum_settle.restype = Settled
-        samples = [ctypes.POINTER(ctypes.c_uint16), ctypes.c_size_t]
-        for call, result in ((self.calls.ayresokum_convert, ctypes.c_uint32), (self.calls.ayresokum_check, Checked)):
-            call.argtypes = [Settings, Frame] + samples * 3
-            call.restype = result
+        for name, (arguments, answer) in EXPORTED.items():
+            call = getattr(self.calls, name)
+            call.argtypes, call.restype = arguments, answer
 
     def settle(self, settings):
-        """The refusal's number, and the nine weights."""
+        """The refusal's number or 0, and the nine weights."""
         s = self.calls.ayresokum_settle(settings)
         return s.refusal, [getattr(s, name) for name in WEIGHTS]
 
