@@ -1,6 +1,7 @@
 #!/usr/bin/env python3
 """boundary.py: holds the four places that declare the exported functions against each other: the Rattle sources, the C header,
-rust/src/raw.rs and library.py. Functions, arguments, the fields of each record and the numbers of refusals must be the same."""
+rust/src/raw.rs and library.py. Functions, arguments and the fields of each record must be the same, and so must the numbers of refusals
+and of the enumerations' cases where they stand."""
 import ctypes
 import os
 import re
@@ -156,28 +157,53 @@ def differences(c, other):
             yield f'record {record}:\n  {c.place}: {c.fields(record)}\n  {other.place}: {other.fields(record)}'
 
 
-def refusals():
-    """The numbers of refusals by name, as each of three places has them. Only callers by numbers can meet 18, so Rattle's rules lack it."""
-    camel = {'crates/rules/src/lib.rt': r'Refusal::(\w+) => (\d+)', 'rust/src/refusal.rs': r'^    (\w+) = (\d+),'}
-    found = {place: {re.sub(r'(?<=.)([A-Z])', r'_\1', name).upper(): int(number)
-                     for name, number in re.findall(pattern, read(place), re.M)} for place, pattern in camel.items()}
-    found['crates/rules/src/lib.rt']['UNNAMED'] = 18
-    text = re.search(r'enum ayresokum_refusal \{(.*?)\}', read('include/ayresokum.h'), re.S)[1]
-    found['include/ayresokum.h'] = {name: int(number) for name, number in re.findall(r'AYRESOKUM_(\w+) = (\d+)', text) if name != 'DONE'}
-    return found
+def numbered(found):
+    """Numbers by name, whatever the style of the name; one that is not given is one more than the one before."""
+    numbers, last = {}, -1
+    for name, number in found:
+        last = int(number) if number.isdigit() else last + 1
+        numbers[name.upper().replace('_', '').removesuffix('BYTES')] = last
+    return numbers
+
+
+def case_numbers():
+    """The numbers of each case of the settings' enumerations, by place. crates/numbers has `0 => A, 1 => B, _ => C` for A, B, C."""
+    matches = [arms for arms in re.findall(r'match n \{(.*?)\}', read('crates/numbers/src/lib.rt'), re.S) if '::' in arms]
+    enums = re.findall(r'pub enum \w+ \{(.*?)\}', read('rust/src/settings.rs'), re.S)
+    c_enums = re.findall(r'enum ayresokum_(\w+) \{(.*?)\}', read('include/ayresokum.h'), re.S)
+    places = {'crates/numbers/src/lib.rt': [[(name, n) for n, name in re.findall(r'(\w+) => \w+::(\w+)', arms)] for arms in matches],
+              'rust/src/settings.rs, numbers.rs': [re.findall(r'(\w+) = (\d+)', body) for body in enums]
+              + [re.findall(r'YuvStandardMatrix::(\w+).*? => \((\d+)', read('rust/src/numbers.rs'))],
+              'include/ayresokum.h': [re.findall(r'AYRESOKUM_(\w+) = (\d+)', body) for kind, body in c_enums
+                                      if kind not in ('refusal', 'plane')]}
+    return {place: {case: n for cases in found for case, n in numbered(cases).items()} for place, found in places.items()}
+
+
+def refusal_numbers():
+    """The numbers of refusals, by place. Only a call by numbers can meet 18, so Rattle's rules lack it; the header has 0 for none."""
+    c_enum = re.search(r'enum ayresokum_refusal \{(.*?)\}', read('include/ayresokum.h'), re.S)[1]
+    return {'crates/rules/src/lib.rt': numbered(re.findall(r'Refusal::(\w+) => (\d+)', read('crates/rules/src/lib.rt'))) | {'UNNAMED': 18},
+            'rust/src/refusal.rs': numbered(re.findall(r'^    (\w+) = (\d+),', read('rust/src/refusal.rs'), re.M)),
+            'include/ayresokum.h': numbered(re.findall(r'AYRESOKUM_(\w+) = ([1-9]\d*)', c_enum))}
+
+
+def number_differences(numbers):
+    (place, these), *others = numbers.items()
+    return [f'{place}: {sorted(these.items() - those.items())}\n  {other}: {sorted(those.items() - these.items())}'
+            for other, those in others if these != those]
 
 
 def main():
     c = header()
     wrong = [line for other in (rattle(), rust(), python()) for line in differences(c, other)]
-    numbers = refusals()
-    if any(those != numbers['include/ayresokum.h'] for those in numbers.values()):
-        wrong.append(f'refusals: {numbers}')
+    cases, refusals = case_numbers(), refusal_numbers()
+    wrong += number_differences(cases) + number_differences(refusals)
     for line in wrong:
         print(line)
-    print(f'{len(c.functions)} exported functions, {len(c.crossing())} records, {len(numbers["include/ayresokum.h"])} refusals, declared in'
-          f' Rattle, C, Rust and Python: {len(wrong)} differences')
-    sys.exit(1 if wrong or not c.functions else 0)
+    counts = [len(c.functions), len(c.crossing()), *(len(numbers['include/ayresokum.h']) for numbers in (cases, refusals))]
+    print('the boundary in Rattle, C, Rust and Python: {} functions, {} records, {} cases of enumerations, {} refusals,'.format(*counts),
+          len(wrong), 'differences')
+    sys.exit(1 if wrong or 0 in counts else 0)
 
 
 main()
