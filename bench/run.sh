@@ -7,15 +7,6 @@ if [ $# -ne 1 ]; then
     sed -n '2,4s/^# //p' "$0" >&2
     exit 2
 fi
-YUVUTILS_SOURCE=$(cd "$1" && pwd)
-if [ -n "${AYRESOKUM_LIB:-}" ]; then
-    AYRESOKUM_LIB=$(cd "$AYRESOKUM_LIB" && pwd)
-fi
-cd "$(dirname "$0")/.."
-if [ -z "${AYRESOKUM_LIB:-}" ]; then
-    make lib >&2
-    AYRESOKUM_LIB=$PWD/build
-fi
-export YUVUTILS_SOURCE AYRESOKUM_LIB
+source "$(dirname "$0")/../compare/sources.sh" "$1"
 cd bench
 exec cargo run --release --offline
