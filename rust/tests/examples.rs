@@ -146,63 +146,38 @@ fn sizes() {
     );
 }
 
+/// Each stride in turn, the other two without padding.
 #[test]
 fn strides() {
     let frame = Frame::unpadded(&J, 3, 2);
-    let Frame {
+    let source = |source_stride| Frame {
         source_stride,
+        ..frame
+    };
+    let luma = |luma_stride| Frame {
         luma_stride,
+        ..frame
+    };
+    let chroma = |chroma_stride| Frame {
         chroma_stride,
-        ..
-    } = frame;
-    for (stride, refusal) in [
-        (source_stride - 1, Err(8)),
-        (65_536, Ok(())),
-        (65_537, Err(8)),
-    ] {
-        let frame = Frame {
-            source_stride: stride,
-            ..frame
-        };
-        let source = vec![0; frame.lengths(&J).source];
-        assert_eq!(
-            converted(&J, &frame, &source)
-                .map(|_| ())
-                .map_err(Refusal::number),
-            refusal
-        );
-    }
-    for (stride, refusal) in [
-        (luma_stride - 1, Err(8)),
-        (65_536, Ok(())),
-        (65_537, Err(8)),
-    ] {
-        let frame = Frame {
-            luma_stride: stride,
-            ..frame
-        };
-        assert_eq!(
-            converted(&J, &frame, &[0; 18])
-                .map(|_| ())
-                .map_err(Refusal::number),
-            refusal
-        );
-    }
-    for (stride, refusal) in [
-        (chroma_stride - 1, Err(8)),
-        (65_536, Ok(())),
-        (65_537, Err(8)),
-    ] {
-        let frame = Frame {
-            chroma_stride: stride,
-            ..frame
-        };
-        assert_eq!(
-            converted(&J, &frame, &[0; 18])
-                .map(|_| ())
-                .map_err(Refusal::number),
-            refusal
-        );
+        ..frame
+    };
+    let with: [(usize, &dyn Fn(usize) -> Frame); 3] = [
+        (frame.source_stride, &source),
+        (frame.luma_stride, &luma),
+        (frame.chroma_stride, &chroma),
+    ];
+    for (visible, with_stride) in with {
+        for (stride, refusal) in [
+            (visible - 1, Err(Refusal::Stride)),
+            (65_536, Ok(())),
+            (65_537, Err(Refusal::Stride)),
+        ] {
+            let frame = with_stride(stride);
+            let source = vec![0; frame.lengths(&J).source];
+            let answer = converted(&J, &frame, &source).map(|_| ());
+            assert_eq!(answer, refusal, "{frame:?}");
+        }
     }
 }
 

@@ -1,6 +1,6 @@
 //! Buffers drawn: lengths, the samples of a source, the old words of a plane.
 use super::random::Random;
-use crate::reference::{Frame, Settings};
+use crate::reference::{pixel_elements, Frame, Settings};
 
 const LONGEST: u128 = 140_000;
 const PIXELS: usize = 40_000;
@@ -41,16 +41,9 @@ pub fn most(settings: &Settings) -> u16 {
     }
 }
 
-fn pixel_elements(settings: &Settings) -> usize {
-    match settings.channels {
-        0 | 3 => 3,
-        _ => 4,
-    }
-}
-
 /// The indices of all visible colour samples, or none where the frame is no frame. Alpha stands last in a pixel.
 pub fn colour_places(settings: &Settings, frame: &Frame, length: usize) -> Vec<usize> {
-    let elements = pixel_elements(settings);
+    let elements = pixel_elements(settings) as usize;
     let mut places = Vec::new();
     if frame.width.saturating_mul(frame.height) > PIXELS {
         return places;

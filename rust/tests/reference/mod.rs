@@ -20,5 +20,6 @@ pub use crate::raw::{Frame, SettingsNumbers as Settings};
 pub use check::{check, exact_of, Sample};
 pub use convert::convert;
 pub use fractions::{reach, within};
+pub use frame::pixel_elements;
 pub use settle::settle;
 pub use storage::{is_formed, word};
