@@ -11,8 +11,9 @@ const LISTED: usize = 256;
 const FILL: u16 = 7;
 const ROW: [u16; 9] = [1023, 0, 0, 0, 0, 1023, 1023, 1023, 1023];
 const NUMBERS: usize = 20;
-/// The pairs of the matrices 5 and 6 of a case.
-const PAIRS: [(f32, f32); 2] = [(0.25, 0.125), (0.0, 0.0)];
+const OWN_PAIR: (f32, f32) = (0.25, 0.125);
+/// The number that a case has for the custom pair 0, 0.
+const ZERO_PAIR: u32 = 55;
 
 struct Case {
     settings: Settings,
@@ -27,16 +28,17 @@ fn read(line: &str) -> Option<Case> {
     let numbers: Result<Vec<u64>, _> = line.split_whitespace().skip(1).map(str::parse).collect();
     let n = numbers.ok().filter(|list| list.len() == NUMBERS)?;
     let short = |i: usize| u32::try_from(n[i]).ok();
-    let matrix = short(2)?;
-    let (kr, kb) = match matrix.checked_sub(CUSTOM) {
-        Some(pair) => *PAIRS.get(pair as usize)?,
-        None => (0.0, 0.0),
+    let (matrix, (kr, kb)) = match short(2)? {
+        CUSTOM => (CUSTOM, OWN_PAIR),
+        ZERO_PAIR => (CUSTOM, (0.0, 0.0)),
+        named if named < CUSTOM => (named, (0.0, 0.0)),
+        _ => return None,
     };
     Some(Case {
         settings: Settings {
             depth: short(0)?,
             precision: short(1)?,
-            matrix: matrix.min(CUSTOM),
+            matrix,
             kr,
             kb,
             range: short(3)?,
