@@ -1,4 +1,5 @@
 //! The crate's side: the same settings and frames, handed to the published loops.
+use crate::caught;
 use crate::frame::{Frame, Planes};
 use crate::image;
 use crate::settings::{Settings, CUSTOM, SMPTE240};
@@ -75,6 +76,23 @@ pub fn convert_with(
         matrix: matrix(settings),
     };
     published::convert(choice(settings, weight_type), call)
+}
+
+/// The loops with the weights of the depth, after the checks of both planes; or why they wrote no planes.
+pub fn try_convert(
+    settings: &Settings,
+    frame: &Frame,
+    source: &[u16],
+    planes: &mut Planes,
+) -> Result<(), String> {
+    let (weight_type, checks) = (WeightType::OfTheDepth, PlaneChecks::Asked);
+    let answer = caught::run(|| convert_with(settings, frame, source, planes, weight_type, checks));
+    match answer {
+        Ok(Some(Ok(()))) => Ok(()),
+        Ok(Some(Err(error))) => Err(error_name(&error)),
+        Ok(None) => Err("not built".to_string()),
+        Err(message) => Err(format!("panic: {message}")),
+    }
 }
 
 /// The loops on a frame that they take, with the weights of the depth.

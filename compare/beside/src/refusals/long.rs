@@ -1,9 +1,8 @@
 //! A source and a luma plane that are both some rows longer than the frame, at 4:2:0: the crate's checks let them through.
-use crate::caught;
 use crate::frame::{Frame, Planes};
 use crate::ours;
 use crate::settings::Settings;
-use crate::theirs::{self, PlaneChecks, WeightType};
+use crate::theirs;
 
 const FILL: u16 = 7;
 const ROWS: [[u16; 3]; 6] = [
@@ -21,15 +20,9 @@ fn print(height: usize, rows: usize) {
     let source = ROWS[..rows].concat();
     let mut planes = Planes::filled(rows, frame.chroma_length(&settings), FILL);
     let ours = ours::convert(&settings, &frame, &source, &mut planes);
-    let (weights, checks) = (WeightType::OfTheDepth, PlaneChecks::Asked);
-    let answer = caught::run(|| {
-        theirs::convert_with(&settings, &frame, &source, &mut planes, weights, checks)
-    });
-    let theirs = match answer {
-        Ok(Some(Ok(()))) => format!("luma {:?}, chroma {:?}", planes.luma, planes.chroma),
-        Ok(Some(Err(error))) => theirs::error_name(&error),
-        Ok(None) => "not built".to_string(),
-        Err(message) => format!("panic: {message}"),
+    let theirs = match theirs::try_convert(&settings, &frame, &source, &mut planes) {
+        Ok(()) => format!("luma {:?}, chroma {:?}", planes.luma, planes.chroma),
+        Err(why) => why,
     };
     println!("| 1 x {height} | {rows} | {theirs} | {ours} |");
 }

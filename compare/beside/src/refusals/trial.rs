@@ -1,12 +1,11 @@
 //! One input tried with real buffers on both sides.
 use super::inputs::{Buffer, Input};
 use super::seen::Seen;
-use crate::caught;
 use crate::frame::{Frame, Planes};
 use crate::ours;
 use crate::random::Random;
 use crate::settings::Settings;
-use crate::theirs::{self, PlaneChecks, WeightType};
+use crate::theirs;
 
 const SEED: u64 = 9;
 /// Buffers have at most so many elements, and frames at most a quarter as many pixels.
@@ -99,22 +98,8 @@ impl Trial {
 
     fn after_loops(&self, fill: u16) -> Result<Planes, String> {
         let mut planes = self.planes(fill);
-        let answer = caught::run(|| {
-            theirs::convert_with(
-                &self.settings,
-                &self.frame,
-                &self.source,
-                &mut planes,
-                WeightType::OfTheDepth,
-                PlaneChecks::Asked,
-            )
-        });
-        match answer {
-            Err(message) => Err(format!("panic: {message}")),
-            Ok(None) => Err("not built".to_string()),
-            Ok(Some(Err(error))) => Err(theirs::error_name(&error)),
-            Ok(Some(Ok(()))) => Ok(planes),
-        }
+        theirs::try_convert(&self.settings, &self.frame, &self.source, &mut planes)?;
+        Ok(planes)
     }
 
     /// The same pixels in buffers of exact lengths and without padding, as the crate's loops convert them.
