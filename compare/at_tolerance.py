@@ -6,7 +6,7 @@ from collections import Counter
 from fractions import Fraction
 from math import gcd
 
-from model import TABLE, settle, tolerance
+from model import TABLE, ranges, settle, tolerance
 
 
 def factors(kind, kr, kb):
@@ -35,7 +35,7 @@ def sums(k, numerator, most):
 def numerators(kind, pixels, kr, kb, full, depth, precision):
     """Codes that lie exactly at the tolerance, each with the numerator that it needs: in reach, and a multiple of the factors' divisor."""
     m = 2 ** depth - 1
-    bias_y, range_y, range_uv = (0, m, m) if full else tuple(n * 2 ** (depth - 8) for n in (16, 219, 224))
+    bias_y, range_y, range_uv = ranges(depth, full)
     bias, span = (bias_y, range_y) if kind == 'Y' else (2 ** (depth - 1), range_uv)
     k, divisor = factors(kind, kr, kb)
     divisor *= pixels * m

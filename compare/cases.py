@@ -1,5 +1,6 @@
 """Cases as the programs print them: settings, a frame and buffers by numbers, and the samples drawn for them."""
 from fractions import Fraction
+from itertools import zip_longest
 
 from model import TABLE, Frame, Settings
 
@@ -42,10 +43,28 @@ class Case:
         return [7] * self.lengths[1], [7] * self.lengths[2]
 
 
+def line_of(name, numbers):
+    return ' '.join([name] + [str(n) for n in numbers])
+
+
 def shown(name, plane):
+    """A plane's line: its words, or a checksum of many."""
     if len(plane) <= 256:
-        return ' '.join([name] + [str(v) for v in plane])
+        return line_of(name, plane)
     total = 0
     for v in plane:
         total = (total * 31 + v + 1) % 65521
     return f'{name} sum {total}'
+
+
+def differing(lines, right):
+    """Each line that is not as it was worked out, with what it should be; the first ten are printed."""
+    found = [(a, b) for a, b in zip_longest(lines, right) if a != b]
+    for a, b in found[:10]:
+        print(f'{a}\n  should be {b}')
+    return found
+
+
+def counted(answers):
+    """How many answers of check there are of each kind."""
+    return {kind: sum(f'{answer} '.startswith(f'{kind} ') for answer in answers) for kind in ('accepted', 'wrong 0', 'wrong 1', 'refused')}

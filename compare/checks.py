@@ -1,10 +1,9 @@
 #!/usr/bin/env python3
 """checks.py FILE: works out every line of FILE, the output of the program run_checks, afresh and says which differ."""
 import sys
-from itertools import zip_longest
 from math import ceil, floor
 
-from cases import MATRICES, Case
+from cases import MATRICES, Case, counted, differing, line_of
 from model import (COUNT, PLACES, Frame, Settings, block, check, convert, exact_chroma, exact_luma, formed, pixel, tolerance)
 
 
@@ -125,10 +124,6 @@ def left(c, source, luma, chroma, old, plane, first, count):
     return check(c.settings, c.frame, source, *planes)
 
 
-def line_of(name, numbers):
-    return ' '.join([name] + [str(n) for n in numbers])
-
-
 def work_out(lines):
     """Each line as it should be."""
     c = source = luma = chroma = old = None
@@ -171,21 +166,16 @@ def work_out(lines):
 
 def main():
     lines = open(sys.argv[1]).read().splitlines()
-    right = list(work_out(lines))
-    differ = [(a, b) for a, b in zip_longest(lines, right) if a != b]
-    for a, b in differ[:10]:
-        print(a, '\n should be', b)
-    print(f'{len(lines)} lines, {len(differ)} differ')
+    wrong = differing(lines, work_out(lines))
+    print(f'{len(lines)} lines, {len(wrong)} differ')
     names = [line.split()[0] for line in lines]
     print({name: names.count(name) for name in ('case', 'words', 'pair', 'left', 'unwritten', 'edges', 'faults', 'lost', 'block')})
     blocks = [[int(n) for n in line.split()[1:9]] for line in lines if line.startswith('block ')]
     print('places of blocks with a code exactly at the tolerance:', sum(at_tolerance(numbers) for numbers in blocks))
     for name in ('pair', 'left', 'unwritten'):
-        answers = [b.split() for a, b in zip(lines, lines[1:]) if a.split()[0] == name]
-        print(f'{name}:', {word: sum(a[:len(word.split())] == word.split() for a in answers)
-                           for word in ('accepted', 'wrong 0', 'wrong 1', 'refused')},
-              sorted({a[1] for a in answers if a[0] == 'refused'}, key=int))
-    sys.exit(1 if differ else 0)
+        answers = [b for a, b in zip(lines, lines[1:]) if a.split()[0] == name]
+        print(f'{name}:', counted(answers), sorted({a.split()[1] for a in answers if a.startswith('refused')}, key=int))
+    sys.exit(1 if wrong else 0)
 
 
 main()

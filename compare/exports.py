@@ -2,7 +2,7 @@
 """exports.py FILE: works out every call of FILE, the output of the program run_exports, afresh and says which differ."""
 import sys
 
-from cases import Case, shown
+from cases import Case, differing, line_of, shown
 from model import check, convert
 
 UNNAMED = 18
@@ -23,24 +23,18 @@ def checked(c, source, luma, chroma):
     return {'accepted': [0, 0, 0, 0, 0], 'wrong': [0, 1, *numbers], 'refused': [*numbers, 0, 0, 0, 0]}[word]
 
 
-def line(name, numbers):
-    return ' '.join([name] + [str(n) for n in numbers])
-
-
 def work_out(case):
     c = Case(case)
     source = c.source()
     number, luma, chroma = convert(c.settings, c.frame, source, *c.planes()) if c.named else (UNNAMED, *c.planes())
-    return [case, line('settled', settled(c)), f'answer {number}', shown('luma', luma), shown('chroma', chroma),
-            line('checked', checked(c, source, luma, chroma))]
+    return [case, line_of('settled', settled(c)), f'answer {number}', shown('luma', luma), shown('chroma', chroma),
+            line_of('checked', checked(c, source, luma, chroma))]
 
 
 def main():
     lines = open(sys.argv[1]).read().splitlines()
     calls = [lines[i:i + 6] for i in range(0, len(lines), 6)]
-    wrong = [(call, right) for call in calls for right in [work_out(call[0])] if call != right]
-    for call, right in wrong[:10]:
-        print('\n'.join(call), '\n should be', '\n'.join(right))
+    wrong = differing(['\n'.join(call) for call in calls], ['\n'.join(work_out(call[0])) for call in calls])
     answers = [int(call[2].split()[1]) for call in calls]
     print(f'{len(calls)} calls of each function, {len(wrong)} differ')
     print('answers of convert:', {n: answers.count(n) for n in sorted(set(answers))})

@@ -1,9 +1,8 @@
 #!/usr/bin/env python3
 """frames.py FILE: works out every case of FILE, the output of the program run_frames, afresh and says which differ."""
 import sys
-from itertools import zip_longest
 
-from cases import Case, shown
+from cases import Case, counted, differing, shown
 from model import COUNT, check, convert
 
 
@@ -54,18 +53,13 @@ def work_out(lines):
 
 def main():
     lines = open(sys.argv[1]).read().splitlines()
-    right = list(work_out(lines))
-    wrong = [(a, b) for a, b in zip_longest(lines, right) if a != b]
-    for a, b in wrong[:10]:
-        print(a, '\n should be', b)
+    wrong = differing(lines, work_out(lines))
     cases = [lines[i:i + 7] for i, line in enumerate(lines) if line.startswith('case ')]
     answers = [int(case[1].split()[1]) for case in cases]
     print(f'{len(cases)} frames, {len(lines)} lines, {len(wrong)} differ')
     print('answers:', {n: answers.count(n) for n in range(11)})
     for k, name in ((4, 'as written'), (5, 'chroma spoiled'), (6, 'both spoiled')):
-        checks = [case[k].split() for case in cases]
-        print(f'checks {name}:', {word: sum(c[:len(word.split())] == word.split() for c in checks)
-                                  for word in ('accepted', 'wrong 0', 'wrong 1', 'refused')})
+        print(f'checks {name}:', counted([case[k] for case in cases]))
     rows = [[int(n) for n in line.split()[2:]] for line in lines if line.startswith('high ')]
     print(f'one sample too large in {len(rows)} rows: refused, refused by check, done, accepted', [sum(n) for n in zip(*rows)])
     sys.exit(1 if wrong else 0)

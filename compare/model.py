@@ -77,6 +77,13 @@ def code(p, bias, w, pixel):
 
 
 @lru_cache(maxsize=None)
+def ranges(depth, full):
+    """bias_y, range_y and range_uv."""
+    m = 2 ** depth - 1
+    return (0, m, m) if full else tuple(n * 2 ** (depth - 8) for n in (16, 219, 224))
+
+
+@lru_cache(maxsize=None)
 def settle(named, pair, full, depth, p):
     """The number of the refusal, or the nine weights."""
     if not 10 <= depth <= 16:
@@ -84,7 +91,7 @@ def settle(named, pair, full, depth, p):
     if not 1 <= p <= 13:
         return 2
     m = 2 ** depth - 1
-    bias_y, range_y, range_uv = (0, m, m) if full else tuple(n * 2 ** (depth - 8) for n in (16, 219, 224))
+    bias_y, range_y, range_uv = ranges(depth, full)
     bias_uv = 2 ** (depth - 1)
     if named:
         kr, kb = (f32(Fraction(n, 10000)) for n in TABLE[named])
@@ -108,7 +115,7 @@ def settle(named, pair, full, depth, p):
 
 
 class Settings:
-    """Numbers as the Rust has them: range 0 limited, subsampling 0 is 4:2:0, 1 4:2:2, 2 4:4:4, order 0 UV, packing 0 most
+    """Numbers as yuvutils-rs has them: range 0 limited, subsampling 0 is 4:2:0, 1 4:2:2, 2 4:4:4, order 0 UV, packing 0 most
     significant, endianness 0 big, channels Rgb, Rgba, Bgra, Bgr. The matrix is a name or a pair of floats."""
 
     def __init__(self, depth, precision, matrix, full, subsampling, order, packing, endianness, channels):
@@ -123,7 +130,7 @@ class Settings:
         return 2 ** self.depth - 1
 
     def bias_y(self):
-        return 0 if self.full else 16 * 2 ** (self.depth - 8)
+        return ranges(self.depth, self.full)[0]
 
     def chroma_size(self, width, height):
         wide = 2 * width if self.subsampling == 2 else 2 * -(-width // 2)
@@ -203,13 +210,13 @@ def formed(s, word):
 
 def exact_luma(s, rgb):
     r, b = TABLE[s.matrix]
-    range_y = s.m() if s.full else 219 * 2 ** (s.depth - 8)
-    return s.bias_y() + Fraction((r * rgb[0] + (10000 - r - b) * rgb[1] + b * rgb[2]) * range_y, 10000 * s.m())
+    bias_y, range_y, _ = ranges(s.depth, s.full)
+    return bias_y + Fraction((r * rgb[0] + (10000 - r - b) * rgb[1] + b * rgb[2]) * range_y, 10000 * s.m())
 
 
 def exact_chroma(s, pixels, is_u):
     r, b = TABLE[s.matrix]
-    range_uv = s.m() if s.full else 224 * 2 ** (s.depth - 8)
+    range_uv = ranges(s.depth, s.full)[2]
     sums = [sum(p[c] for p in pixels) for c in range(3)]
     blend = r * sums[0] + (10000 - r - b) * sums[1] + b * sums[2]
     own, k = (sums[2], b) if is_u else (sums[0], r)

@@ -3,6 +3,7 @@
 import sys
 from fractions import Fraction
 
+from cases import differing
 from model import TABLE, from_bits, settle
 
 
@@ -20,9 +21,7 @@ def answer(line):
 
 def main():
     lines = open(sys.argv[1]).read().splitlines()
-    wrong = [(line, answer(line)) for line in lines if line != answer(line)]
-    for line, right in wrong[:20]:
-        print(f'{line}\n  should be {right}')
+    wrong = differing(lines, [answer(line) for line in lines])
     named = {tuple(line.split(':')[0].split()) for line in lines if line.split()[0] in TABLE}
     wanted = {(n, r, str(d), str(p)) for n in TABLE for r in ('limited', 'full') for d in range(10, 17) for p in range(1, 14)}
     print(f'{len(lines)} lines, {len(wrong)} differ, {len(wanted & named)} of the 910 named settings among them')
