@@ -10,7 +10,7 @@ from model import TABLE, ranges, settle, tolerance
 
 
 def factors(kind, kr, kb):
-    """What a channel's sum counts in the numerator, and the divisor without n·m."""
+    """The factor of each channel's sum in the numerator of the exact fraction, and the denominator without its n·m."""
     kg = 10000 - kr - kb
     return {'Y': ((kr, kg, kb), 10000), 'Cb': ((-kr, -kg, 10000 - kb), 2 * (10000 - kb)),
             'Cr': ((10000 - kr, -kg, -kb), 2 * (10000 - kr))}[kind]

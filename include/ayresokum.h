@@ -10,8 +10,10 @@
  *   that applies, with nothing touched, or the whole result.
  *
  *   ayresokum_settle works out the nine integer weights of settings. ayresokum_convert settles, converts a frame and writes
- *   both planes. ayresokum_check settles and judges two planes from any converter against the source: each visible sample by its exact
- *   fraction and the tolerance 1/2 + 153*m/(100*2^P) codes, one half more for chroma of two or four pixels.
+ *   both planes. ayresokum_check settles and judges two planes from any converter against the source: the code of each visible sample
+ *   may lie up to 1/2 + 153*m/(100*2^P) from its exact fraction, one half more for chroma of two or four pixels.
+ *
+ *   Here P is the precision, and m = 2^depth - 1 is the largest sample and the largest code.
  *
  * REFUSALS
  *   Each call gives the first that applies; 0 is none. After a refusal no element of either plane has changed.
@@ -19,12 +21,12 @@
  *      2  precision P is not 1 to 13
  *      3  custom pair: kr, kb and 1 - kr - kb are not all above 0; not-a-number counts as failing
  *      4  a weight is more than 51/100 from 2^P times its exact fraction (proved never to be given)
- *      5  a code would lie outside 0 to m: of white, full blue, yellow, red or cyan
+ *      5  white's luma, Cb of full blue or full yellow, or Cr of full red or full cyan would be a code outside 0 to m
  *      6  ayresokum_check only: the matrix is custom
  *      7  width or height is 0 or over 16384
  *      8  a stride is shorter than its visible row or over 65536
  *      9  a length is not exactly stride * rows
- *     10  a visible colour sample of the source is over m = 2^depth - 1
+ *     10  a visible colour sample of the source is over m
  *     18  a number of the settings names no case of its enumeration; given before all others
  *
  * BUFFERS
@@ -62,8 +64,10 @@ enum ayresokum_subsampling { AYRESOKUM_YUV420 = 0, AYRESOKUM_YUV422 = 1, AYRESOK
 
 enum ayresokum_order { AYRESOKUM_UV = 0, AYRESOKUM_VU = 1 };
 
+/* A code is stored as code * 2^(16 - depth), or as it is. */
 enum ayresokum_packing { AYRESOKUM_MOST_SIGNIFICANT = 0, AYRESOKUM_LEAST_SIGNIFICANT = 1 };
 
+/* Big endian exchanges the two bytes of every stored word; little endian leaves them. */
 enum ayresokum_byte_order { AYRESOKUM_BIG_ENDIAN = 0, AYRESOKUM_LITTLE_ENDIAN = 1 };
 
 enum ayresokum_channels { AYRESOKUM_RGB = 0, AYRESOKUM_RGBA = 1, AYRESOKUM_BGRA = 2, AYRESOKUM_BGR = 3 };
@@ -88,7 +92,7 @@ enum ayresokum_plane { AYRESOKUM_LUMA = 0, AYRESOKUM_CHROMA = 1 };
 /* Numbers of the enumerations above; kr and kb are read for AYRESOKUM_CUSTOM alone. */
 typedef struct ayresokum_settings {
     uint32_t depth;     /* 10 to 16 */
-    uint32_t precision; /* P, 1 to 13; 13 for a check that says much */
+    uint32_t precision; /* P, 1 to 13; the greater it is, the narrower is the tolerance of a check */
     uint32_t matrix;
     float kr;
     float kb;
@@ -109,7 +113,7 @@ typedef struct ayresokum_frame {
     size_t chroma_stride;
 } ayresokum_frame;
 
-/* The nine weights, times 2^P; all 0 on a refusal. */
+/* The weights of red, green and blue in luma, in Cb and in Cr, times 2^P; all 0 on a refusal. */
 typedef struct ayresokum_settled {
     uint32_t refusal;
     int32_t yr, yg, yb;
@@ -117,8 +121,8 @@ typedef struct ayresokum_settled {
     int32_t cr_r, cr_g, cr_b;
 } ayresokum_settled;
 
-/* Refusal 0 and wrong 0: accepted. Wrong 1: plane, row and element of the first wrong sample, luma row by row, then chroma element by
- * element, counted from 0. What does not apply is 0. */
+/* Refusal 0 and wrong 0: accepted. Wrong 1: the plane, row and element of the first wrong sample, where all of luma comes before chroma
+ * and each plane goes row by row; rows and elements count from 0. What does not apply is 0. */
 typedef struct ayresokum_checked {
     uint32_t refusal;
     uint32_t wrong;

@@ -10,10 +10,10 @@ const DEPTHS: [u32; 2] = [10, 16];
 const CHANNELS: [u32; 2] = [0, 1];
 /// 4:2:0, 4:2:2 and 4:4:4.
 const SUBSAMPLINGS: [u32; 3] = [0, 1, 2];
-/// Even, since at odd widths and 4:2:0 the crate's planes differ by its known fault.
+/// Even widths: at odd ones and 4:2:0 the crate's planes differ by its known fault.
 const SIZES: [(usize, usize); 2] = [(1920, 1080), (4096, 2160)];
 
-/// Sizes and paddings for the cost of a pixel.
+/// Width, height and padding of the frames that show the cost of a pixel.
 const SCALES: [(usize, usize, usize); 7] = [
     (128, 128, 0),
     (512, 512, 0),

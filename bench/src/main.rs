@@ -9,7 +9,7 @@ mod stage;
 mod table;
 mod theirs;
 
-// What the comparison of both converters already has.
+// Shared with compare/beside; `raw`, the C interface, with the Rust crate.
 #[path = "../../compare/beside/src/frame.rs"]
 #[allow(dead_code)]
 mod frame;

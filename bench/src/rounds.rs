@@ -4,7 +4,7 @@ use crate::clock;
 use crate::stage::{Candidate, Stage, CANDIDATES};
 use std::time::Duration;
 
-/// All cases are measured so many times over, so that what else the machine does for a while does not fall on one case alone.
+/// How many times all cases are measured over, so that what else the machine does for a while does not fall on one case alone.
 pub const PASSES: usize = 4;
 pub const LEAST_ROUNDS: usize = 15;
 const LEAST_TIME: Duration = Duration::from_secs(3);
@@ -30,7 +30,7 @@ impl Times {
                 let best = &mut self.0[candidate as usize];
                 *best = time.min(*best);
             }
-            // So each converter follows the other every second time, and finds the caches as the other left them.
+            // Reversed, so that each converter runs after the other equally often and finds the caches as the other left them.
             order.reverse();
             rounds += 1;
         }

@@ -4,10 +4,10 @@ use crate::settings::{Settings, MATRICES, RANGES};
 use crate::{clock, ours};
 use std::hint::black_box;
 
-/// Times that all settings are settled in a round.
+/// How many times a round settles all the settings.
 const PASSES: usize = 500;
 
-/// Every named depth, matrix and range at P = 13 that is not refused.
+/// Every depth, named matrix and range at P = 13 that is not refused.
 fn accepted() -> Vec<Settings> {
     let mut list = Vec::new();
     for depth in 10..=16 {

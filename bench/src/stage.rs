@@ -7,7 +7,7 @@ use crate::{ours, theirs};
 use published::Loops;
 use std::hint::black_box;
 
-/// What the planes hold before a converter writes them; no code of most-significant packing is stored as it at 10 bits.
+/// What the planes hold before a converter writes them. At 10 bits no code in most-significant packing is stored as this word.
 const UNWRITTEN: u16 = 1;
 
 #[derive(Clone, Copy)]
@@ -43,8 +43,8 @@ fn random_samples(settings: &Settings, length: usize) -> Vec<u16> {
 }
 
 impl Stage {
-    /// Every buffer is written before the first round; both converters are held against each other, but for padded rows, since the
-    /// crate takes no chroma plane that has padding; and the check accepts.
+    /// Before the first round every buffer is written, both converters are seen to write the same planes, and the check to accept them.
+    /// Padded rows are left out of the comparison, since the crate takes no chroma plane that has padding.
     pub fn new(case: &Case) -> Stage {
         let settings = case.settings;
         let frame = Frame::padded(&settings, case.width, case.height, [case.padding; 3]);

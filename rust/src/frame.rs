@@ -29,7 +29,7 @@ impl Frame {
     /// let lengths = frame.lengths(&settings);
     /// assert_eq!((lengths.source, lengths.luma, lengths.chroma), (45, 15, 12));
     /// ```
-    // A size that saturates is refused, as is any stride or length made from it.
+    // Where a product would overflow it stays at the greatest number, and the frame is refused for its size.
     pub const fn unpadded(settings: &Settings, width: usize, height: usize) -> Frame {
         let pairs = match settings.subsampling {
             YuvChromaSubsampling::Yuv444 => width,

@@ -15,7 +15,7 @@ pub enum Refusal {
     CustomPair = 3,
     /// A weight lies far from its exact fraction. Proved never to be given.
     WeightOff = 4,
-    /// A code of these settings would lie outside 0 to m.
+    /// The code of white or of a full colour would lie outside 0 to m.
     CodeOutside = 5,
     /// A check with a custom matrix.
     CustomUnchecked = 6,

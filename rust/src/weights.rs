@@ -24,7 +24,7 @@ pub struct Weights {
 }
 
 impl Weights {
-    /// From the library's order.
+    /// From the nine numbers in the order in which the library gives them.
     pub(crate) const fn of([yr, yg, yb, cb_r, cb_g, cb_b, cr_r, cr_g, cr_b]: [i32; 9]) -> Weights {
         Weights {
             yr,

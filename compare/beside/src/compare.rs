@@ -20,7 +20,7 @@ use tally::Tally;
 
 const SEED: u64 = 273;
 const PASSES: usize = 8;
-/// One frame in so many is drawn once more with any matrix, refused or not.
+/// One frame in this many is drawn once more with any matrix, refused or not.
 const ANY_MATRIX: usize = 16;
 
 struct Comparison {

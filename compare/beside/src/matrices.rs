@@ -44,7 +44,7 @@ fn custom((kr, kb): (f32, f32)) -> Matrix {
     }
 }
 
-/// A pair with kr, kb and kg above 0 but for the rounding of the floats.
+/// A pair whose kr, kb and kg are above 0, unless rounding makes one 0.
 pub fn drawn(random: &mut Random) -> Matrix {
     let kr = random.fraction();
     custom((kr, random.fraction() * (1.0 - kr)))

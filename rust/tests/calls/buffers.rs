@@ -5,7 +5,7 @@ use crate::reference::{pixel_elements, Frame, Settings};
 const LONGEST: u128 = 140_000;
 const PIXELS: usize = 40_000;
 
-/// The exact lengths where they can be had, else short ones.
+/// The exact length of each buffer, or a short one where the exact one is too long for a test.
 pub fn lengths(random: &mut Random, settings: &Settings, frame: &Frame) -> [usize; 3] {
     frame.lengths(settings).map(|length| match length {
         0..=LONGEST => length as usize,
@@ -13,7 +13,7 @@ pub fn lengths(random: &mut Random, settings: &Settings, frame: &Frame) -> [usiz
     })
 }
 
-/// One length off: one short, one long, empty, a row more, or without the padding of the last row.
+/// Makes one length wrong: one short, one long, empty, a row more, or without the padding of the last row.
 pub fn spoil_length(
     random: &mut Random,
     settings: &Settings,
@@ -33,7 +33,7 @@ pub fn spoil_length(
     };
 }
 
-/// The largest sample, or that of 10 bits where the depth is none.
+/// The largest sample m of the depth, or of 10 bits where the depth is not 10 to 16.
 pub fn most(settings: &Settings) -> u16 {
     match settings.depth {
         10..=16 => settings.most() as u16,
@@ -41,7 +41,7 @@ pub fn most(settings: &Settings) -> u16 {
     }
 }
 
-/// The indices of all visible colour samples, or none where the frame is no frame. Alpha stands last in a pixel.
+/// The indices of all visible colour samples, without alpha, which stands last in a pixel; none where the frame is too large.
 pub fn colour_places(settings: &Settings, frame: &Frame, length: usize) -> Vec<usize> {
     let elements = pixel_elements(settings) as usize;
     let mut places = Vec::new();
@@ -87,7 +87,7 @@ pub fn source(random: &mut Random, settings: &Settings, frame: &Frame, length: u
     source
 }
 
-/// One visible sample above m, where there is a number above m.
+/// Puts one visible sample above m; at 16 bits no word is.
 pub fn spoil_sample(random: &mut Random, settings: &Settings, frame: &Frame, source: &mut [u16]) {
     let places = colour_places(settings, frame, source.len());
     let most = most(settings);

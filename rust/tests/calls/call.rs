@@ -1,4 +1,4 @@
-//! What a call hands over.
+//! A call: settings, a frame and its buffers, drawn at random.
 use super::random::Random;
 use super::{buffers, frames, settings};
 use crate::reference::{self, Frame, Settings};
@@ -36,7 +36,7 @@ fn damages(random: &mut Random) -> Vec<Damage> {
 }
 
 impl Call {
-    /// What comes later is laid out after what came before, so that a damage can be the only one.
+    /// Each part is drawn to fit the parts before it, damaged or not, so that one damage does not bring another.
     pub fn draw(random: &mut Random) -> Call {
         let damages = damages(random);
         let has = |damage| damages.contains(&damage);
@@ -68,7 +68,7 @@ impl Call {
         }
     }
 
-    /// Document 01's conversion of it.
+    /// Converts by document 01.
     pub fn convert(&mut self) -> Result<(), u32> {
         reference::convert(
             &self.settings,
@@ -79,7 +79,7 @@ impl Call {
         )
     }
 
-    /// Document 01's check of it.
+    /// Checks by document 01.
     pub fn check(&self) -> Result<Option<reference::Sample>, u32> {
         reference::check(
             &self.settings,

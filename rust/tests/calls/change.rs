@@ -8,13 +8,13 @@ use crate::reference::{exact_of, is_formed, reach, within, word, Sample};
 pub enum Change {
     /// A row of another picture, or one never written.
     StaleRow,
-    /// All rows from one on.
+    /// The same of all rows from one on.
     StaleRest,
     /// One sample at the edge of the tolerance.
     LastWithin,
     /// One sample a code beyond it.
     FirstBeyond,
-    /// One bit exchanged so that the word is not well formed.
+    /// One bit flipped so that the word is not well formed.
     Malformed,
     /// Any word at one place.
     AnyWord,
@@ -96,7 +96,7 @@ fn another(random: &mut Random, call: &Call) -> Call {
     other
 }
 
-/// Visible elements only, so that padding stays what it was.
+/// Copies visible elements alone, so that padding stays what it was.
 fn make_stale(random: &mut Random, call: &mut Call, all_below: bool) {
     let mut other = another(random, call);
     let number = random.below(2);
@@ -110,7 +110,7 @@ fn make_stale(random: &mut Random, call: &mut Call, all_below: bool) {
     }
 }
 
-/// Whether there was a code to move to.
+/// Moves one sample to the lowest or highest code within the tolerance, or `beyond` codes past it. Says whether there is one.
 fn move_to_edge(random: &mut Random, call: &mut Call, beyond: i128) -> bool {
     let sample = sample(random, call);
     let exact = exact_of(&call.settings, &call.frame, &call.source, &sample);
@@ -127,7 +127,7 @@ fn move_to_edge(random: &mut Random, call: &mut Call, beyond: i128) -> bool {
     true
 }
 
-/// Whether one bit can spoil the word; at 16 bits none can.
+/// Flips one bit of a sample so that it is not well formed. Says whether one bit can; at 16 bits none can.
 fn malform(random: &mut Random, call: &mut Call) -> bool {
     let sample = sample(random, call);
     let stored = *word_at(call, &sample);

@@ -8,7 +8,8 @@ use crate::reference::{Frame, Sample, Settings};
 
 const CALLS: usize = 60_000;
 
-/// The changes that were made: one mostly, so that its own answer shows; or several, so that the first wrong one does.
+/// Makes one change mostly, so that its own answer shows, or several, so that the first wrong sample is one of many. Gives the
+/// changes that were made.
 fn change(random: &mut Random, call: &mut Call) -> Vec<Change> {
     let count = match random.below(8) {
         0 => 0,

@@ -2,10 +2,10 @@
 use super::random::Random;
 use crate::reference::{Frame, Settings};
 
-/// 2^32 + 3 would be 3 in fewer bits.
+/// Sizes that are refused; 2^32 + 3 would be 3 if it were cut to 32 bits.
 const SIZES: [usize; 7] = [0, 0, 16_385, 65_536, 65_537, (1 << 32) + 3, usize::MAX];
 
-/// Some are sound for some rows.
+/// Strides at and around the limits. Which of them are refused depends on the row.
 const STRIDES: [usize; 7] = [0, 1, 16_384, 16_385, 65_536, 65_537, usize::MAX];
 
 /// Width and height: mostly small, at times one of them 16,384.
@@ -29,7 +29,7 @@ pub fn spoil_size(random: &mut Random, sizes: &mut [usize; 2]) {
     let size = random.pick(&SIZES);
     let side = random.below(2);
     if size > 40 {
-        // Kept narrow, so that the buffers can be laid out.
+        // The other side is kept short, so that the buffers stay small.
         sizes[1 - side] = 1 + random.below(2);
     }
     sizes[side] = size;
@@ -60,7 +60,7 @@ fn spoiled_stride(random: &mut Random, visible: u128) -> usize {
     }
 }
 
-/// `spoils` says whether one stride is to be off.
+/// `spoils` says whether one stride is to be wrong.
 pub fn laid_out(
     random: &mut Random,
     settings: &Settings,

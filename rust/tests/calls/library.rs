@@ -1,4 +1,4 @@
-//! The library asked, by the crate's functions or by raw calls, with answers as the reference gives them.
+//! Calls of the library, by the crate's functions or by the raw ones, with the answers in the form that the reference gives them.
 use super::call::Call;
 use super::random::Random;
 use crate::raw;
@@ -15,7 +15,7 @@ pub enum By {
 }
 
 impl By {
-    /// The crate's types have no case for an unnamed number.
+    /// Three calls in four by the crate, but none with a number that names no case, since its types rule that out.
     pub fn draw(random: &mut Random, settings: &Settings) -> By {
         match settings.is_meant() && !random.one_in(4) {
             true => By::Crate,

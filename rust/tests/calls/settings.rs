@@ -5,7 +5,7 @@ use crate::reference::Settings;
 
 const CUSTOM: u32 = 5;
 
-/// Numbers that name no case of any enumeration; 256 and 65536 would be 0 in fewer bits.
+/// Numbers that name no case of any enumeration; 256 and 65536 would be 0 if they were cut to 8 or 16 bits.
 const UNNAMED: [u32; 8] = [6, 7, 255, 256, 257, 65_536, 1 << 31, u32::MAX];
 const DEPTHS: [u32; 11] = [0, 1, 7, 8, 9, 17, 31, 32, 33, 266, u32::MAX];
 const PRECISIONS: [u32; 8] = [0, 14, 15, 31, 32, 33, 269, u32::MAX];

@@ -3,7 +3,7 @@ use super::places::pixel;
 use super::sample::Pixel;
 use super::{Frame, Settings};
 
-/// Both of a pair along a line of pixels, or the odd last one by itself.
+/// The two pixels of a pair along a line, or the odd last one by itself.
 fn pair(at: usize, end: usize) -> Vec<usize> {
     (2 * at..2 * at + 2).filter(|&i| i < end).collect()
 }

@@ -3,7 +3,7 @@ use super::matrices::{row, Row};
 use super::sample::Pixel;
 use super::Settings;
 
-/// The exact value of a sample, over and under, and the number of pixels it is made from.
+/// The exact value of a sample, the fraction over/under, and the number of pixels it is made from.
 #[derive(Debug, Clone, Copy)]
 pub struct Exact {
     pub over: i128,
@@ -46,7 +46,7 @@ pub fn exact_chroma(settings: &Settings, block: &[Pixel], is_u: bool) -> Exact {
     }
 }
 
-/// 1/2 + 153·m/(100·2^P), "one half more for chroma of two or four pixels"; over and under.
+/// 1/2 + 153·m/(100·2^P), "one half more for chroma of two or four pixels", as the numbers over and under the line.
 fn tolerance(settings: &Settings, pixels: usize) -> (i128, i128) {
     let halves = if pixels == 1 { 1 } else { 2 };
     let under = 100 * settings.one();

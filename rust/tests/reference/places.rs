@@ -3,7 +3,7 @@ use super::frame::pixel_elements;
 use super::sample::Pixel;
 use super::{Frame, Settings};
 
-/// Of red, green and blue in a pixel.
+/// The elements of a pixel that hold red, green and blue.
 pub fn colours(settings: &Settings) -> [usize; 3] {
     match settings.channels {
         0 | 1 => [0, 1, 2],

@@ -19,7 +19,7 @@ fn some_too_large(settings: &Settings, frame: &Frame, source: &[u16]) -> bool {
     })
 }
 
-/// Of settings that settle takes. The buffers are source, luma and chroma.
+/// The first of refusals 7 to 10 that applies, for settings that settle accepts. The buffers are source, luma and chroma.
 pub fn frame_refusal(settings: &Settings, frame: &Frame, buffers: [&[u16]; 3]) -> Result<(), u32> {
     if size_off(frame.width) || size_off(frame.height) {
         return Err(7);

@@ -4,7 +4,7 @@ use super::sample::code;
 use super::weights::{rest, weights, Weights};
 use super::Settings;
 
-/// A fraction, over and under.
+/// The number over the line of a fraction, and the one under it.
 type Fraction = (i128, i128);
 
 /// "Exact weights are its factors": luma's, then chroma's at n = 1.

@@ -16,7 +16,7 @@ fn luma(k: f32, range_y: f32, most: f32) -> f32 {
     ranged / most
 }
 
-/// The weight of a channel in the other one's difference: `-0.5 * k / (1 - own) * range_uv / most`.
+/// The weight of a channel in the Cb or Cr of another: `-0.5 * k / (1 - own) * range_uv / most`.
 fn other(k: f32, own: f32, range_uv: f32, most: f32) -> f32 {
     let halved = -0.5_f32 * k;
     let under = 1.0_f32 - own;

@@ -9,7 +9,8 @@ pub struct Seen {
 }
 
 impl Seen {
-    /// Compares two runs over differently filled planes, which an unwritten element tells apart, with the rows as they should be.
+    /// Two runs began with planes filled differently, so an element that differs between them was not written. The others are held
+    /// against the rows as they should be, which have no padding.
     pub fn of(runs: [&[u16]; 2], stride: usize, right: &[u16], width: usize) -> Seen {
         let mut seen = Seen::default();
         for (i, word) in right.iter().enumerate() {
