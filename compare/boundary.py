@@ -22,7 +22,7 @@ def read(path):
 
 
 def record_name(name):
-    """One name for a record: settings for ayresokum_settings, SettingsNumbers and Settings. Other names stay as they are."""
+    """One name for a record: settings for ayresokum_settings, SettingsNumbers and Settings."""
     return re.sub(r'^ayresokum_|Numbers$', '', name).lower()
 
 
