@@ -1,25 +1,40 @@
--- What the calls come to, by what the numbers mean. Assumes nothing.
+-- What the calls come to, by what the numbers mean, and that each promise admits one answer. Assumes nothing.
 use Prim.Native.Nat.{ℕ}
-use mathlib.Core.Path.{_≡_, refl, sym, ap, _∙_, subst⁻¹}
+use mathlib.Core.Path.{_≡_, sym, ap, _∙_, subst⁻¹}
 use mathlib.Core.List.{List}
 use Rattle.rules.specs.declared.Settings.{Settings}
 use Rattle.rules.specs.declared.Frame.{Frame}
+use Rattle.rules.specs.declared.Settled.{Settled}
 use Rattle.rules.specs.declared.Converted.{Converted}
 use Rattle.rules.specs.declared.Checked.{Checked}
+use Rattle.rules.specs.Answers.{Answer, settledAnswer, convertedAnswer, checkedAnswer}
+use Rattle.rules.specs.Settle.{settle}
 use Rattle.rules.specs.Convert.{convert, lumaAfter, chromaAfter}
-use Rattle.rules.specs.Check.{Answers}
-use Rattle.frame_check.proofs.Unique.{one-answer}
+use Rattle.rules.specs.Check.{check}
+use Rattle.rule_laws.proofs.Answers.{one-settled, one-converted, one-checked}
 use Rattle.numbers.specs.declared.Meant.{Meant}
 use Rattle.numbers.specs.declared.Meant.the-variants.{Nothing, These}
+use Rattle.ayresokum.specs.declared.SettledNumbers.{SettledNumbers}
 use Rattle.ayresokum.specs.declared.CheckedNumbers.{CheckedNumbers}
-use Rattle.ayresokum.specs.Calls.{unnamed, convertedNumber, convertCall, lumaCall, chromaCall, told, checkedNumbers, CheckCall}
+use Rattle.ayresokum.specs.Calls.{unnamed, Told, weightless, settledNumbers, SettleCall, convertedNumber, ConvertCall, lumaCall, chromaCall, told, checkedNumbers, CheckCall}
+
+-- ---- settle
+
+module _ {m : Meant} (r : SettledNumbers) where
+  pub unsettled : m ≡ Nothing → r ≡ weightless unnamed → SettleCall m r
+  unsettled e h = subst⁻¹ (λ (x : Meant). SettleCall x r) e h
+
+  pub settled : (s : Settings) → m ≡ These s → (a : Settled) → settledAnswer a ≡ settle s → r ≡ settledNumbers a → SettleCall m r
+  settled s e a h q = subst⁻¹ (λ (x : Meant). SettleCall x r) e (record { case = a; stands = h; told = q })
+
+-- ---- convert and check
 
 module _ (f : Frame) (source luma chroma : List ℕ) {m : Meant} where
   -- numbers that mean nothing: 18, and both planes as they were
-  pub unmeant : m ≡ Nothing →
-      (unnamed ≡ convertCall m f source luma chroma) × ((luma ≡ lumaCall m f source luma chroma) × (chroma ≡ chromaCall m f source luma chroma))
-  unmeant e = (
-    sym (ap (λ (x : Meant). convertCall x f source luma chroma) e),
+  pub unmeant : {n : ℕ} → m ≡ Nothing → n ≡ unnamed →
+      ConvertCall m f source luma chroma n × ((luma ≡ lumaCall m f source luma chroma) × (chroma ≡ chromaCall m f source luma chroma))
+  unmeant {n} e h = (
+    subst⁻¹ (λ (x : Meant). ConvertCall x f source luma chroma n) e h,
     (
       sym (ap (λ (x : Meant). lumaCall x f source luma chroma) e),
       sym (ap (λ (x : Meant). chromaCall x f source luma chroma) e),
@@ -31,23 +46,35 @@ module _ (f : Frame) (source luma chroma : List ℕ) {m : Meant} where
 
   -- numbers that mean settings: what the service says of them
   module _ (s : Settings) (e : m ≡ These s) where
-    pub meant : {n : ℕ} {a : Converted} {l c : List ℕ} → n ≡ convertedNumber a → a ≡ convert s f source luma chroma
+    pub meant : {n : ℕ} (a : Converted) {l c : List ℕ} → n ≡ convertedNumber a → convertedAnswer a ≡ convert s f source luma chroma
         → l ≡ lumaAfter s f source luma chroma → c ≡ chromaAfter s f source luma chroma
-        → (n ≡ convertCall m f source luma chroma) × ((l ≡ lumaCall m f source luma chroma) × (c ≡ chromaCall m f source luma chroma))
-    meant hn ha hl hc = (
-      hn ∙ ap convertedNumber ha ∙ sym (ap (λ (x : Meant). convertCall x f source luma chroma) e),
+        → ConvertCall m f source luma chroma n × ((l ≡ lumaCall m f source luma chroma) × (c ≡ chromaCall m f source luma chroma))
+    meant {n} a hn ha hl hc = (
+      subst⁻¹ (λ (x : Meant). ConvertCall x f source luma chroma n) e (record { case = a; stands = ha; told = hn }),
       (
         hl ∙ sym (ap (λ (x : Meant). lumaCall x f source luma chroma) e),
         hc ∙ sym (ap (λ (x : Meant). chromaCall x f source luma chroma) e),
       ),
     )
 
-    pub answered : (a : Checked) {r : CheckedNumbers} → Answers s f source luma chroma a → r ≡ checkedNumbers a → CheckCall m f source luma chroma r
-    answered a {r} h q = subst⁻¹ (λ (x : Meant). CheckCall x f source luma chroma r) e (record { answer = a; admitted = h; numbers = q })
+    pub answered : (a : Checked) {r : CheckedNumbers} → checkedAnswer a ≡ check s f source luma chroma → r ≡ checkedNumbers a → CheckCall m f source luma chroma r
+    answered a {r} h q = subst⁻¹ (λ (x : Meant). CheckCall x f source luma chroma r) e (record { case = a; stands = h; told = q })
 
--- THE THEOREM: any two answers that the promise of ayresokum_check admits are equal
-pub one-told : (m : Meant) (f : Frame) (source luma chroma : List ℕ) (r q : CheckedNumbers) →
+-- ---- THE THEOREMS: any two answers that the promise of an exported function admits are equal
+
+one-told : {A R : Type 0} (paper : A → Answer) (numbers : A → R) (answer : Answer) → ((a b : A) → paper a ≡ paper b → a ≡ b) → (r q : R) →
+    Told paper numbers answer r → Told paper numbers answer q → r ≡ q
+one-told paper numbers answer one r q a b = a .told ∙ ap numbers (one (a .case) (b .case) (a .stands ∙ sym (b .stands))) ∙ sym (b .told)
+
+pub one-settle-call : (m : Meant) (r q : SettledNumbers) → SettleCall m r → SettleCall m q → r ≡ q
+one-settle-call Nothing r q a b = a ∙ sym b
+one-settle-call (These s) r q a b = one-told settledAnswer settledNumbers (settle s) one-settled r q a b
+
+pub one-convert-call : (m : Meant) (f : Frame) (source luma chroma : List ℕ) (r q : ℕ) → ConvertCall m f source luma chroma r → ConvertCall m f source luma chroma q → r ≡ q
+one-convert-call Nothing f source luma chroma r q a b = a ∙ sym b
+one-convert-call (These s) f source luma chroma r q a b = one-told convertedAnswer convertedNumber (convert s f source luma chroma) one-converted r q a b
+
+pub one-check-call : (m : Meant) (f : Frame) (source luma chroma : List ℕ) (r q : CheckedNumbers) →
     CheckCall m f source luma chroma r → CheckCall m f source luma chroma q → r ≡ q
-one-told Nothing f source luma chroma r q a b = a ∙ sym b
-one-told (These s) f source luma chroma r q a b =
-    a .numbers ∙ ap checkedNumbers (one-answer s f source luma chroma (a .answer) (b .answer) (a .admitted) (b .admitted)) ∙ sym (b .numbers)
+one-check-call Nothing f source luma chroma r q a b = a ∙ sym b
+one-check-call (These s) f source luma chroma r q a b = one-told checkedAnswer checkedNumbers (check s f source luma chroma) one-checked r q a b

@@ -4,7 +4,6 @@ use mathlib.Core.Path.{_≡_}
 use mathlib.Core.List.{List}
 use lib.IntN.{pos}
 use Rattle.rules.specs.declared.Frame.{Frame}
-use Rattle.rules.specs.declared.Settings.{Settings}
 use Rattle.rules.specs.declared.Weights.{Weights}
 use Rattle.rules.specs.declared.Settled.{Settled}
 use Rattle.rules.specs.declared.Settled.the-variants as settled
@@ -13,9 +12,10 @@ use Rattle.rules.specs.declared.Converted.the-variants as converted
 use Rattle.rules.specs.declared.Checked.{Checked}
 use Rattle.rules.specs.declared.Checked.the-variants as checked
 use Rattle.rules.specs.Refusals.{numberOf}
+use Rattle.rules.specs.Answers.{Answer, settledAnswer, convertedAnswer, checkedAnswer}
 use Rattle.rules.specs.Settle.{settle}
 use Rattle.rules.specs.Convert.{convert, lumaAfter, chromaAfter}
-use Rattle.rules.specs.Check.{Answers}
+use Rattle.rules.specs.Check.{check}
 use Rattle.numbers.specs.declared.Meant.{Meant}
 use Rattle.numbers.specs.declared.Meant.the-variants.{Nothing, These}
 use Rattle.ayresokum.specs.declared.SettledNumbers.{SettledNumbers}
@@ -24,6 +24,12 @@ use Rattle.ayresokum.specs.declared.CheckedNumbers.{CheckedNumbers}
 -- the number of the refusal where a number names no case of its enumeration
 abbrev pub unnamed : ℕ
 unnamed = 18
+
+-- the case of an enumeration that stands for a service's answer, as numbers; one case does
+pub record Told {A R : Type 0} (paper : A → Answer) (numbers : A → R) (answer : Answer) (r : R) : Type 0 where
+  pub case : A
+  pub stands : paper case ≡ answer
+  pub told : r ≡ numbers case
 
 -- ---- settle
 
@@ -48,9 +54,9 @@ abbrev pub settledNumbers : Settled → SettledNumbers
 settledNumbers (settled.Weighed w) = record { refusal = 0; weights = w }
 settledNumbers (settled.Refused r) = weightless (numberOf r)
 
-abbrev pub settleCall : Meant → SettledNumbers
-settleCall Nothing = weightless unnamed
-settleCall (These s) = settledNumbers (settle s)
+abbrev pub SettleCall : Meant → SettledNumbers → Type 0
+SettleCall Nothing r = r ≡ weightless unnamed
+SettleCall (These s) r = Told settledAnswer settledNumbers (settle s) r
 
 -- ---- convert
 
@@ -58,9 +64,9 @@ abbrev pub convertedNumber : Converted → ℕ
 convertedNumber converted.Done = 0
 convertedNumber (converted.Refused r) = numberOf r
 
-abbrev pub convertCall : Meant → Frame → List ℕ → List ℕ → List ℕ → ℕ
-convertCall Nothing f source luma chroma = unnamed
-convertCall (These s) f source luma chroma = convertedNumber (convert s f source luma chroma)
+abbrev pub ConvertCall : Meant → Frame → List ℕ → List ℕ → List ℕ → ℕ → Type 0
+ConvertCall Nothing f source luma chroma r = r ≡ unnamed
+ConvertCall (These s) f source luma chroma r = Told convertedAnswer convertedNumber (convert s f source luma chroma) r
 
 abbrev pub lumaCall : Meant → Frame → List ℕ → List ℕ → List ℕ → List ℕ
 lumaCall Nothing f source luma chroma = luma
@@ -80,12 +86,6 @@ checkedNumbers checked.Accepted = told 0 0 0 0 0
 checkedNumbers (checked.Wrong p) = told 0 1 (p .plane) (p .row) (p .element)
 checkedNumbers (checked.Refused r) = told (numberOf r) 0 0 0 0
 
--- some answer that check's promise admits, as numbers; it admits one
-pub record Told (s : Settings) (f : Frame) (source luma chroma : List ℕ) (r : CheckedNumbers) : Type 0 where
-  pub answer : Checked
-  pub admitted : Answers s f source luma chroma answer
-  pub numbers : r ≡ checkedNumbers answer
-
 abbrev pub CheckCall : Meant → Frame → List ℕ → List ℕ → List ℕ → CheckedNumbers → Type 0
 CheckCall Nothing f source luma chroma r = r ≡ told unnamed 0 0 0 0
-CheckCall (These s) f source luma chroma r = Told s f source luma chroma r
+CheckCall (These s) f source luma chroma r = Told checkedAnswer checkedNumbers (check s f source luma chroma) r

@@ -2,7 +2,7 @@
 ghost use mathlib.Core.Path.{_≡_};
 ghost use Prim.Native.Nat.{_≤_};
 ghost use Rattle.numbers.specs.Numbers.{settingsOf};
-ghost use Rattle.ayresokum.specs.Calls.{weightless, settledNumbers, settleCall, convertedNumber, convertCall, lumaCall, chromaCall, told, checkedNumbers, CheckCall};
+ghost use Rattle.ayresokum.specs.Calls.{weightless, settledNumbers, SettleCall, convertedNumber, ConvertCall, lumaCall, chromaCall, told, checkedNumbers, CheckCall};
 ghost use Rattle.ayresokum.specs.Places.{Placed};
 use numbers::Meant;
 use numbers::SettingsNumbers;
@@ -60,7 +60,7 @@ fn settled_numbers(answer: Settled) -> SettledNumbers
 
 #[no_mangle]
 pub extern "C" fn ayresokum_settle(settings: SettingsNumbers) -> SettledNumbers
-    ensures { λ r. ⌜ r ≡ settleCall (settingsOf settings) ⌝ }
+    ensures { λ r. ⌜ SettleCall (settingsOf settings) r ⌝ }
 {
     let meant = numbers::settings_of(settings);
     match meant {
@@ -86,7 +86,7 @@ pub extern "C" fn ayresokum_convert(
     luma: &mut [u16],
     chroma: &mut [u16],
 ) -> u32
-    ensures answer { λ r. ⌜ r ≡ convertCall (settingsOf settings) frame (now (source .entry)) (now (luma .entry)) (now (chroma .entry)) ⌝ }
+    ensures answer { λ r. ⌜ ConvertCall (settingsOf settings) frame (now (source .entry)) (now (luma .entry)) (now (chroma .entry)) r ⌝ }
     ensures luma { λ r. ⌜ now (luma .exit) ≡ lumaCall (settingsOf settings) frame (now (source .entry)) (now (luma .entry)) (now (chroma .entry)) ⌝ }
     ensures chroma { λ r. ⌜ now (chroma .exit) ≡ chromaCall (settingsOf settings) frame (now (source .entry)) (now (luma .entry)) (now (chroma .entry)) ⌝ }
 {

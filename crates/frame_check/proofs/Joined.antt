@@ -27,10 +27,10 @@ by-row s f source luma chroma k e = sym (ap (λ (m : Matrix). judgedBy m s f (sh
 
 -- ---- what the two walks come to
 
-module _ {y c : Search} where
-  pub luma-wrong : {row element : ℕ} {after : Answer} → y ≡ At row element → given (placeValues 0 row element) ≡ named 0 y after
-  luma-wrong {after} e = sym (ap (λ (x : Search). named 0 x after) e)
+pub luma-wrong : (after : Answer) {y : Search} {row element : ℕ} → y ≡ At row element → given (placeValues 0 row element) ≡ named 0 y after
+luma-wrong after e = sym (ap (λ (x : Search). named 0 x after) e)
 
+module _ {y c : Search} where
   pub chroma-wrong : {row element : ℕ} → y ≡ Nothing → c ≡ At row element → given (placeValues 1 row element) ≡ named 0 y (named 1 c (given []))
   chroma-wrong e f = sym (λ i. named 0 (e i) (named 1 (f i) (given [])))
 

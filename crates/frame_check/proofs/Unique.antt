@@ -88,10 +88,16 @@ module _ (s : Settings) (f : Frame) (source luma chroma : List ℕ) where
     abbrev CleanChroma : Type 0
     CleanChroma = Clean (chromaTest s k f (shown s f source) chroma) (chromaWidth (s .subsampling) (f .width)) (chromaHeight (s .subsampling) (f .height))
 
+    abbrev inLuma : Search
+    inLuma = firstFailing (lumaTest s k f (shown s f source) luma) (f .width) (f .height)
+
+    abbrev inChroma : Search
+    inChroma = firstFailing (chromaTest s k f (shown s f source) chroma) (chromaWidth (s .subsampling) (f .width)) (chromaHeight (s .subsampling) (f .height))
+
     -- THE THEOREM: accepting is the same as that no visible sample of either plane is wrong
     pub accepted-iff : (check s f source luma chroma ≡ given []) ↔ (CleanLuma × CleanChroma)
     accepted-iff = (
-      λ a. let b = nothing-named _ _ (sym where-passed ∙ a) in (none-clean _ _ _ (b .0), none-clean _ _ _ (b .1)),
+      λ a. let b = nothing-named inLuma inChroma (sym where-passed ∙ a) in (none-clean _ _ _ (b .0), none-clean _ _ _ (b .1)),
       λ b. where-passed ∙ sym (both-right (clean-none _ _ _ (b .0)) (clean-none _ _ _ (b .1))),
     )
 
@@ -99,33 +105,35 @@ module _ (s : Settings) (f : Frame) (source luma chroma : List ℕ) where
     pub luma-wrong-iff : (row element : ℕ) → (check s f source luma chroma ≡ given (placeValues 0 row element))
         ↔ FirstWrong (lumaTest s k f (shown s f source) luma) (f .width) (f .height) row element
     luma-wrong-iff row element = (
-      λ a. found-wrong _ _ _ _ _ (luma-named _ _ row element (sym where-passed ∙ a)),
-      λ w. where-passed ∙ sym (luma-wrong {c = Nothing} (first-found _ _ _ _ _ w)),
+      λ a. found-wrong _ _ _ _ _ (luma-named inLuma inChroma row element (sym where-passed ∙ a)),
+      λ w. where-passed ∙ sym (luma-wrong (named 1 inChroma (given [])) (first-found _ _ _ _ _ w)),
     )
 
     -- a sample of chroma is named exactly when luma is clean and it is chroma's first wrong one
     pub chroma-wrong-iff : (row element : ℕ) → (check s f source luma chroma ≡ given (placeValues 1 row element))
         ↔ (CleanLuma × FirstWrong (chromaTest s k f (shown s f source) chroma) (chromaWidth (s .subsampling) (f .width)) (chromaHeight (s .subsampling) (f .height)) row element)
     chroma-wrong-iff row element = (
-      λ a. let b = chroma-named _ _ row element (sym where-passed ∙ a) in (none-clean _ _ _ (b .0), found-wrong _ _ _ _ _ (b .1)),
+      λ a. let b = chroma-named inLuma inChroma row element (sym where-passed ∙ a) in (none-clean _ _ _ (b .0), found-wrong _ _ _ _ _ (b .1)),
       λ w. where-passed ∙ sym (chroma-wrong (clean-none _ _ _ (w .0)) (first-found _ _ _ _ _ (w .1))),
     )
 
   -- ---- and a refusal is given exactly when it is the first that applies
 
   -- by a row of the table of matrices nothing is refused
-  unrefused : {X : Type 0} (y c : Search) (n : ℕ) (v : List ℤ) → named 0 y (named 1 c (given [])) ≡ refused n v → X
-  unrefused Nothing Nothing n v e = absurd (let z : _≡_ {A = ℕ} 0 1 = cc in omega arith)
-  unrefused Nothing (At a b) n v e = absurd (let z : _≡_ {A = ℕ} 0 1 = cc in omega arith)
-  unrefused (At a b) c n v e = absurd (let z : _≡_ {A = ℕ} 0 1 = cc in omega arith)
+  unrefused : (y c : Search) (n : ℕ) (v : List ℤ) → named 0 y (named 1 c (given [])) ≡ refused n v → ⊥
+  unrefused Nothing Nothing n v e = let z : _≡_ {A = ℕ} 0 1 = cc in omega arith
+  unrefused Nothing (At a b) n v e = let z : _≡_ {A = ℕ} 0 1 = cc in omega arith
+  unrefused (At a b) c n v e = let z : _≡_ {A = ℕ} 0 1 = cc in omega arith
+
+  unrefusing : (n : ℕ) (v : List ℤ) (m : Matrix) → isCustom m ≡ false → judgedBy m s f (shown s f source) luma chroma ≡ refused n v → ⊥
+  unrefusing n v (Tabled k) c a =
+      unrefused (firstFailing (lumaTest s k f (shown s f source) luma) (f .width) (f .height))
+      (firstFailing (chromaTest s k f (shown s f source) chroma) (chromaWidth (s .subsampling) (f .width)) (chromaHeight (s .subsampling) (f .height))) n v a
+  unrefusing n v (Own p) c a = true≢false c
 
   due : (n : ℕ) (v : List ℤ) (l : Line) → first (checkLines s f source luma chroma) ≡ l → answer l (judgement s f source luma chroma) ≡ refused n v → l ≡ refuses n v
   due n v (refuses m u) h a = let p : m ≡ n = cc in let q : u ≡ v = cc in λ i. refuses (p i) (q i)
-  due n v passes h a = by (matrixOf (s .matrix)) (passed-by _ _ _ (parted (settleLines s) _ h .1) .0) a
-    where
-      by : {X : Type 0} (m : Matrix) → isCustom m ≡ false → judgedBy m s f (shown s f source) luma chroma ≡ refused n v → X
-      by (Tabled k) c a = unrefused _ _ n v a
-      by (Own p) c a = absurd (true≢false c)
+  due n v passes h a = absurd (unrefusing n v (matrixOf (s .matrix)) (passed-by _ _ _ (parted (settleLines s) _ h .1) .0) a)
 
   pub refused-iff : (n : ℕ) (v : List ℤ) → (check s f source luma chroma ≡ refused n v) ↔ (first (checkLines s f source luma chroma) ≡ refuses n v)
   unfolding check

@@ -2,24 +2,26 @@
 use mathlib.Core.Path.{_≡_, refl, sym, ap, _∙_, subst}
 use mathlib.Core.Logic.{inl, inr}
 use mathlib.Core.Bool.{Bool, true, false, not, _&&_, true≢false}
+use mathlib.Core.List.{List}
 use Prim.Native.Nat.{ℕ, zero, suc, _+_, _≤_, _<_}
 use native.Mathlib.Nat.{eq-or-lt-of-le}
 use native.Mathlib.Omega.{arith}
+use lib.IntN.{ℤ}
 use Rattle.rules.specs.declared.Settings.{Settings}
 use Rattle.rules.specs.declared.Named.{Named}
 use Rattle.rules.specs.declared.Matrix.{Matrix}
 use Rattle.rules.specs.declared.Matrix.the-variants.{Tabled, Own}
 use Rattle.rules.specs.declared.YuvRange.{YuvRange}
 use Rattle.rules.specs.declared.YuvRange.the-variants.{Limited, Full}
-use Rattle.rules.specs.declared.Settled.the-variants.{Refused}
-use Rattle.rules.specs.declared.Refusal.the-variants.{WeightOff}
 use Rattle.rules.specs.Ranges.{most, rangeY, rangeUV}
 use Rattle.rules.specs.Matrices.{matrixOf}
 use Rattle.rules.specs.Weights.{pairOf, forward, integers, weightsOf}
-use Rattle.rules.specs.Settle.{allNear, weightOff, settle}
-use Rattle.rule_laws.proofs.Refusals.{skip, reached, ended, bounds}
+use Rattle.rules.specs.Answers.{refused}
+use Rattle.rules.specs.Refusals.{outside}
+use Rattle.rules.specs.Settle.{pairOff, allNear, weightOff, someCodeOff, settle}
+use Rattle.rule_laws.proofs.Refusals.{skipped, reached, ended, bounds}
 use Rattle.rule_laws.proofs.Settling.{refused-refuses}
-use Rattle.named_settings.proofs.Computed.{ranged, all, rowWeights, one, both, every, RowPasses, passes}
+use Rattle.named_weights.proofs.Computed.{ranged, all, rowWeights, one, both, every, RowPasses, passes}
 
 both-true : (x y : Bool) → x && y ≡ true → (x ≡ true) × (y ≡ true)
 both-true true y h = (refl, h)
@@ -62,13 +64,13 @@ module _ (s : Settings) (shallow : 10 ≤ s .depth) (deep : s .depth ≤ 16) (co
   not-off = by-matrix (matrixOf (s .matrix)) (passes (s .matrix))
 
 -- THE THEOREM: no settings, and so no named ones, get refusal 4
-pub never : (s : Settings) → settle s ≡ Refused WeightOff → ⊥
-never s e =
-    let l1 = reached _ _ WeightOff refl (refused-refuses s WeightOff e) in
-    let l2 = reached _ _ WeightOff refl (l1 .1) in
-    let l3 = reached _ _ WeightOff refl (l2 .1) in
+pub never : (s : Settings) (v : List ℤ) → refused 4 v ≡ settle s → ⊥
+never s v e =
+    let l1 = reached 1 (outside 10 16 (s .depth)) _ 4 v refl (refused-refuses s 4 v e) in
+    let l2 = reached 2 (outside 1 13 (s .precision)) _ 4 v refl (l1 .1) in
+    let l3 = reached 3 (pairOff (matrixOf (s .matrix))) _ 4 v refl (l2 .1) in
     let d = bounds 10 16 (s .depth) (l1 .0) in
     let p = bounds 1 13 (s .precision) (l2 .0) in
-    let l4 = sym (skip _ _ (not-off s (d .0) (d .1) (p .0) (p .1))) ∙ l3 .1 in
-    let l5 = reached _ _ WeightOff refl l4 in
-    ended WeightOff (l5 .1)
+    let l4 = sym (skipped 4 _ _ (not-off s (d .0) (d .1) (p .0) (p .1))) ∙ l3 .1 in
+    let l5 = reached 5 (someCodeOff s (weightsOf s)) _ 4 v refl l4 in
+    ended 4 v (l5 .1)

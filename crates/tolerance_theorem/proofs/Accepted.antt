@@ -15,13 +15,13 @@ use Rattle.rules.specs.declared.Named.{Named}
 use Rattle.rules.specs.declared.Matrix.{Matrix}
 use Rattle.rules.specs.declared.Matrix.the-variants.{Tabled}
 use Rattle.rules.specs.declared.Weights.{Weights}
-use Rattle.rules.specs.declared.Settled.the-variants.{Weighed}
 use Rattle.rules.specs.declared.Pixel.{Pixel}
 use Rattle.rules.specs.Ranges.{most, biasY, biasUV, rangeY, rangeUV}
 use Rattle.rules.specs.Matrices.{matrixOf}
 use Rattle.rules.specs.Weights.{pairOf, lumaRow}
 use Rattle.rules.specs.Sample.{signedCode, code}
 use Rattle.rules.specs.Blocks.{averaged}
+use Rattle.rules.specs.Answers.{given, weightValues}
 use Rattle.rules.specs.Settle.{weightOff, settle}
 use Rattle.rules.specs.Fractions.{exactLuma, halves, within}
 use Rattle.rule_laws.specs.Codes.{Low}
@@ -44,7 +44,7 @@ held m k e =
       kb = subst (λ (x : Matrix). T (fits binary32 (pairOf x .kb))) (sym e) (round-fits binary32 false (k .kb) 10000);
     }
 
-module _ (s : Settings) (k : Named) (w : Weights) (named : matrixOf (s .matrix) ≡ Tabled k) (accepted : settle s ≡ Weighed w) where
+module _ (s : Settings) (k : Named) (w : Weights) (named : matrixOf (s .matrix) ≡ Tabled k) (accepted : given (weightValues w) ≡ settle s) where
   near : NearAll (s .precision) k (most (s .depth)) (rangeY (s .range) (s .depth)) (rangeUV (s .range) (s .depth)) w
   near =
       let p = passed s w accepted in

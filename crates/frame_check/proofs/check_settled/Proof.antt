@@ -1,7 +1,6 @@
 -- `frame_check::check_settled` meets its contract. Assumes nothing.
 use borrow.Author.Needs.{needs}
 use mathlib.Core.Path.{sym, _∙_}
-use Rattle.rules.specs.declared.Search.the-variants.{Nothing}
 use Rattle.frame_check.proofs.Joined.{luma-wrong, chroma-wrong, both-right}
 use Rattle.frame_check.proofs.check_settled.Statement.{statement}
 use Rattle.frame_check.proofs.check_settled.Tie as tie
@@ -19,7 +18,7 @@ enum-known-in-luma : tie.Need-enum-known-in-luma
 enum-known-in-luma c = search needs
 
 returns : tie.Need-returns
-returns c = let y = c .before in luma-wrong {c = Nothing} (sym (y .before .before .walk-luma .ensures) ∙ y .in-luma .given .1)
+returns c = let y = c .before in luma-wrong _ (sym (y .before .before .walk-luma .ensures) ∙ y .in-luma .given .1)
 
 enum-told : tie.Need-enum-told
 enum-told c = search needs
