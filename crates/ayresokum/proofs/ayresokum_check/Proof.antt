@@ -28,7 +28,7 @@ returns : tie.Need-returns
 returns c = let v = c .before .before .before .before .before .before .before .args in untold (v .frame) (v .source .now) (v .luma .now) (v .chroma .now) _ (sym (c .before .before .before .settings-of .ensures) ∙ c .before .enum-told .given .1) (c .told .ensures)
 
 returns-2 : tie.Need-returns-2
-returns-2 c = let v = c .before .before .before .before .before .before .before .before .before .args in answered (v .frame) (v .source .now) (v .luma .now) (v .chroma .now) _ (sym (c .before .before .before .before .before .settings-of .ensures) ∙ c .before .before .before .meant .given .1) _ (c .before .check .ensures) (c .checked-numbers .ensures)
+returns-2 c = let v = c .before .before .before .before .before .before .before .before .before .args in answered (v .frame) (v .source .now) (v .luma .now) (v .chroma .now) _ (sym (c .before .before .before .before .before .settings-of .ensures) ∙ c .before .before .before .meant .given .1) (c .before .check .result) (c .before .check .ensures) (c .checked-numbers .ensures)
 
 pub ayresokum-check-spec : {M : Type 1} → statement M
 ayresokum-check-spec =

@@ -1,6 +1,6 @@
 -- `ayresokum::ayresokum_convert` meets its contract. Assumes nothing.
 use borrow.Author.Needs.{needs}
-use mathlib.Core.Path.{sym, _∙_}
+use mathlib.Core.Path.{refl, sym, _∙_}
 use Rattle.ayresokum.proofs.Calls.{unmeant, meant}
 use Rattle.ayresokum.proofs.ayresokum_convert.Statement.{statement}
 use Rattle.ayresokum.proofs.ayresokum_convert.Tie as tie
@@ -21,7 +21,7 @@ converted-number-requires : tie.Need-converted-number-requires
 converted-number-requires c κs = search needs
 
 returns : tie.Need-returns
-returns c = let v = c .before .before .before .before .before .before .args in unmeant (v .frame) (v .source .now) (v .luma .now) (v .chroma .now) (sym (c .before .before .settings-of .ensures) ∙ c .enum-told .given .1)
+returns c = let v = c .before .before .before .before .before .before .args in unmeant (v .frame) (v .source .now) (v .luma .now) (v .chroma .now) (sym (c .before .before .settings-of .ensures) ∙ c .enum-told .given .1) refl
 
 same-length : tie.Need-same-length
 same-length c = search needs
@@ -30,7 +30,7 @@ same-length-2 : tie.Need-same-length-2
 same-length-2 c = search needs
 
 returns-2 : tie.Need-returns-2
-returns-2 c = let v = c .before .before .before .before .before .before .before .before .before .before .before .before .before .before .before .args in let e = c .before .before .before .before .before .convert .ensures in meant (v .frame) (v .source .now) (v .luma .now) (v .chroma .now) _ (sym (c .before .before .before .before .before .before .before .before .before .before .before .settings-of .ensures) ∙ c .before .before .before .before .before .before .before .before .before .meant .given .1) (c .converted-number .ensures) (e .0) (e .1 .0) (e .1 .1)
+returns-2 c = let v = c .before .before .before .before .before .before .before .before .before .before .before .before .before .before .before .args in let e = c .before .before .before .before .before .convert .ensures in meant (v .frame) (v .source .now) (v .luma .now) (v .chroma .now) _ (sym (c .before .before .before .before .before .before .before .before .before .before .before .settings-of .ensures) ∙ c .before .before .before .before .before .before .before .before .before .meant .given .1) (c .before .before .before .before .before .convert .result) (c .converted-number .ensures) (e .0) (e .1 .0) (e .1 .1)
 
 pub ayresokum-convert-spec : {M : Type 1} → statement M
 ayresokum-convert-spec =

@@ -1,7 +1,7 @@
 -- `ayresokum::ayresokum_settle` meets its contract. Assumes nothing.
 use borrow.Author.Needs.{needs}
-use mathlib.Core.Path.{sym, ap, _∙_}
-use Rattle.ayresokum.specs.Calls.{settledNumbers, settleCall}
+use mathlib.Core.Path.{sym, _∙_}
+use Rattle.ayresokum.proofs.Calls.{unsettled, settled}
 use Rattle.ayresokum.proofs.ayresokum_settle.Statement.{statement}
 use Rattle.ayresokum.proofs.ayresokum_settle.Tie as tie
 
@@ -24,10 +24,12 @@ settled-numbers-requires : tie.Need-settled-numbers-requires
 settled-numbers-requires c κs = search needs
 
 returns : tie.Need-returns
-returns c = c .weightless .ensures ∙ sym (ap settleCall (sym (c .before .before .before .settings-of .ensures) ∙ c .before .enum-told .given .1))
+returns c = unsettled _ (sym (c .before .before .before .settings-of .ensures) ∙ c .before .enum-told .given .1) (c .weightless .ensures)
 
 returns-2 : tie.Need-returns-2
-returns-2 c = c .settled-numbers .ensures ∙ ap settledNumbers (c .before .settle .ensures .0) ∙ sym (ap settleCall (sym (c .before .before .before .before .before .settings-of .ensures) ∙ c .before .before .before .meant .given .1))
+returns-2 c =
+    settled _ _ (sym (c .before .before .before .before .before .settings-of .ensures) ∙ c .before .before .before .meant .given .1)
+    (c .before .settle .result) (c .before .settle .ensures .0) (c .settled-numbers .ensures)
 
 pub ayresokum-settle-spec : {M : Type 1} → statement M
 ayresokum-settle-spec =
