@@ -1,49 +1,34 @@
--- Elements whose bytes are exchanged. Assumes nothing.
-use mathlib.Core.Path.{_≡_, refl, ap, _∙_, subst, subst⁻¹}
-use mathlib.Core.Logic.{⊎-elim}
+-- Packed words with their bytes exchanged are the words of the rules. Assumes nothing.
+use mathlib.Core.Path.{_≡_, refl, ap, _∙_}
+use mathlib.Core.Bool.{Bool}
 use mathlib.Core.List.{List}
-use Prim.Native.Nat.{ℕ, _+_, _≤_, _<_}
-use native.Mathlib.Nat.{eq-or-lt-of-le, lt-irrefl, not-suc-le-zero}
+use Prim.Native.Nat.{ℕ, _≤_}
 use native.Mathlib.Omega.{arith}
-use lib.ListN.{length, getD, set, length-set}
-use lib.Seq.{getD-set-same, getD-set-other}
-use Rattle.rules.specs.declared.YuvEndianness.{YuvEndianness}
-use Rattle.rules.specs.declared.YuvEndianness.the-variants.{LittleEndian}
 use Rattle.rules.specs.declared.Settings.{Settings}
+use Rattle.rules.specs.declared.Weights.{Weights}
+use Rattle.rules.specs.declared.Pixel.{Pixel}
+use Rattle.rules.specs.declared.YuvEndianness.{YuvEndianness}
 use Rattle.rules.specs.declared.YuvChromaSubsampling.{YuvChromaSubsampling}
 use Rattle.rules.specs.declared.YuvChromaSubsampling.the-variants.{Yuv420, Yuv422, Yuv444}
 use Rattle.rules.specs.Blocks.{chromaWidth}
-use Rattle.rules.specs.Storage.{exchanged}
-use Rattle.last_column.specs.Columns.{evenColumns, elementsOver}
+use Rattle.rules.specs.Storage.{exchanged, word}
+use Rattle.rules.specs.Convert.{wordOf}
 use Rattle.plane_laws.specs.Rows.{Begun}
-use Rattle.column_pairs.specs.Exchanged.{Exchanged}
-use Rattle.column_pairs.specs.Pairs.{PairsWritten, PairsExchanged}
+use Rattle.last_column.specs.Words.{lumaElement, chromaElement}
+use Rattle.last_column.specs.Columns.{evenColumns, elementsOver}
+use Rattle.byte_exchange.specs.Exchanged.{Exchanged}
+use Rattle.packed_store.specs.Packed.{packedLumaAt, packedChromaAt}
+use Rattle.packed_store.specs.Pairs.{PairsWritten}
+use Rattle.column_pairs.specs.Columns.{ColumnsExchanged}
 
-pub exchanged-none : (e : YuvEndianness) (y : List ℕ) → Exchanged e 0 y y
-exchanged-none e y = record { long = refl; inside = λ k h. absurd (not-suc-le-zero h); after = λ k h. refl }
+-- element by element
+pub luma-exchanged : (s : Settings) (w : Weights) (t : ℕ → Pixel) (k : ℕ) → exchanged (s .endianness) (packedLumaAt s w t k) ≡ lumaElement s w t k
+unfolding wordOf word
+luma-exchanged s w t k = refl
 
--- one element more
-pub exchanged-more : (e : YuvEndianness) (n : ℕ) (old y : List ℕ) (v : ℕ) → Exchanged e n old y → n < length old → v ≡ exchanged e (getD y n 0) → Exchanged e (n + 1) old (set y n v)
-exchanged-more e n old y v h l q =
-    record {
-      long = length-set y n v ∙ h .long;
-      inside = λ k b. ⊎-elim
-          (λ (r : k ≡ n). subst⁻¹ (λ (j : ℕ). getD (set y n v) j 0 ≡ exchanged e (getD old j 0)) r
-          (getD-set-same y n v 0 (omega (arith, h .long)) ∙ q ∙ ap (exchanged e) (h .after n (omega arith))))
-          (λ (r : k < n). getD-set-other y n k v 0 (λ z. lt-irrefl k (omega (arith, z))) ∙ h .inside k r)
-          (eq-or-lt-of-le (omega arith));
-      after = λ k a. getD-set-other y n k v 0 (λ z. lt-irrefl k (omega (arith, z))) ∙ h .after k (omega arith);
-    }
-
--- little endian leaves them as they are
-pub exchanged-little : (n : ℕ) (y : List ℕ) → Exchanged LittleEndian n y y
-exchanged-little n y = record { long = refl; inside = λ k h. refl; after = λ k h. refl }
-
-pub exchanged-same : {e : YuvEndianness} {n m : ℕ} {old y : List ℕ} → n ≡ m → Exchanged e n old y → Exchanged e m old y
-exchanged-same {e} {old} {y} q h = subst (λ (k : ℕ). Exchanged e k old y) q h
-
-pub exchanged-as : {e d : YuvEndianness} {n : ℕ} {old y : List ℕ} → e ≡ d → Exchanged d n old y → Exchanged e n old y
-exchanged-as {n} {old} {y} q h = subst⁻¹ (λ (z : YuvEndianness). Exchanged z n old y) q h
+pub chroma-exchanged : (s : Settings) (w : Weights) (width : ℕ) (two : Bool) (t u : ℕ → Pixel) (k : ℕ) → exchanged (s .endianness) (packedChromaAt s w width two t u k) ≡ chromaElement s w width two t u k
+unfolding packedChromaAt chromaElement wordOf word
+chroma-exchanged s w width two t u k = refl
 
 -- elements that were written, exchanged
 pub begun-exchanged : {e : YuvEndianness} {n : ℕ} {f g : ℕ → ℕ} {old y z : List ℕ} → Begun n f old y → Exchanged e n y z → ((k : ℕ) → exchanged e (f k) ≡ g k) → Begun n g old z
@@ -57,7 +42,7 @@ begun-exchanged {e} b x same =
 
 pub pairs-exchanged : (s : Settings) {width : ℕ} {f g f′ g′ : ℕ → ℕ} {luma luma₁ luma₂ chroma chroma₁ chroma₂ : List ℕ}
     → ((k : ℕ) → exchanged (s .endianness) (f k) ≡ f′ k) → ((k : ℕ) → exchanged (s .endianness) (g k) ≡ g′ k)
-    → PairsWritten (s .subsampling) width f g luma luma₁ chroma chroma₁ → PairsExchanged s width luma₁ luma₂ chroma₁ chroma₂
+    → PairsWritten (s .subsampling) width f g luma luma₁ chroma chroma₁ → ColumnsExchanged s width luma₁ luma₂ chroma₁ chroma₂
     → PairsWritten (s .subsampling) width f′ g′ luma luma₂ chroma chroma₂
 pairs-exchanged s ef eg p x = record { in-luma = begun-exchanged (p .in-luma) (x .in-luma) ef; in-chroma = begun-exchanged (p .in-chroma) (x .in-chroma) eg }
 

@@ -1,3 +1,1 @@
-pub mod Readings
-pub mod Turns
 pub mod Exchanges

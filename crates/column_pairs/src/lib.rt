@@ -1,4 +1,4 @@
-// All columns of a row but an odd last one, two at a time: luma and chroma together, by joined codes.
+// All columns of a row but an odd last one, as they are stored.
 ghost use mathlib.Core.Path.{_≡_};
 ghost use mathlib.Core.Bool.{true, false};
 ghost use Prim.Native.Nat.{_≤_};
@@ -7,21 +7,21 @@ ghost use Rattle.rule_laws.specs.Usable.{Usable};
 ghost use Rattle.blocks.specs.Tiles.{paired};
 ghost use Rattle.plane_laws.specs.Rows.{Begun};
 ghost use Rattle.frames.specs.Rows.{Part};
-ghost use Rattle.last_column.specs.Words.{lumaWords, chromaWords};
-ghost use Rattle.last_column.specs.Columns.{evenColumns};
-ghost use Rattle.column_pairs.specs.Packed.{lumaPacked, chromaPacked};
-ghost use Rattle.column_pairs.specs.Pairs.{RowLengths, PairsWritten, PairsExchanged};
-
-mod exchange;
-mod loops;
-mod store;
-
+ghost use Rattle.last_column.specs.Words.{lumaWords};
+ghost use Rattle.last_column.specs.Columns.{evenColumns, RowLengths};
+ghost use Rattle.packed_store.specs.Pairs.{PackedWritten};
+ghost use Rattle.column_pairs.specs.Columns.{ColumnsWritten, ColumnsExchanged};
+use byte_exchange::exchange;
 use last_column::elements_over;
+use packed_blocks::block_loop;
+use packed_rows::luma_loop;
+use packed_rows::paired_loop;
+use packed_rows::single_loop;
 use rules::Settings;
 use rules::Weights;
 use rules::YuvChromaSubsampling;
 
-// From one source row, before the bytes are exchanged.
+// A luma row and a chroma row from one source row, before the bytes are exchanged.
 fn halved_packed(
     s: Settings,
     w: Weights,
@@ -33,26 +33,26 @@ fn halved_packed(
     requires { ⌜ Usable s w ⌝ }
     requires { ⌜ RowLengths s width (length (now luma)) (length (now chroma)) ⌝ }
     requires { ⌜ Part s width (now rgba) ⌝ }
-    ensures { λ _. ⌜ PairsWritten (s .subsampling) width (lumaPacked s w (now (rgba .entry))) (chromaPacked s w width false (now (rgba .entry)) (now (rgba .entry))) (now (luma .entry)) (now (luma .exit)) (now (chroma .entry)) (now (chroma .exit)) ⌝ }
+    ensures { λ _. ⌜ PackedWritten s w width false (now (rgba .entry)) (now (rgba .entry)) (now (luma .entry)) (now (luma .exit)) (now (chroma .entry)) (now (chroma .exit)) ⌝ }
 {
     let subsampling = s.subsampling;
     match subsampling {
-        YuvChromaSubsampling::Yuv420 => loops::paired_loop(s, w, width, luma, chroma, rgba),
-        YuvChromaSubsampling::Yuv422 => loops::paired_loop(s, w, width, luma, chroma, rgba),
-        YuvChromaSubsampling::Yuv444 => loops::single_loop(s, w, width, luma, chroma, rgba),
+        YuvChromaSubsampling::Yuv420 => paired_loop(s, w, width, luma, chroma, rgba),
+        YuvChromaSubsampling::Yuv422 => paired_loop(s, w, width, luma, chroma, rgba),
+        YuvChromaSubsampling::Yuv444 => single_loop(s, w, width, luma, chroma, rgba),
     }
 }
 
-// The bytes of the columns that are written.
+// Big endian words have their bytes exchanged once all columns are written.
 fn exchange_columns(s: Settings, width: usize, luma: &mut [u16], chroma: &mut [u16])
     requires { ⌜ RowLengths s width (length (now luma)) (length (now chroma)) ⌝ }
-    ensures { λ _. ⌜ PairsExchanged s width (now (luma .entry)) (now (luma .exit)) (now (chroma .entry)) (now (chroma .exit)) ⌝ }
+    ensures { λ _. ⌜ ColumnsExchanged s width (now (luma .entry)) (now (luma .exit)) (now (chroma .entry)) (now (chroma .exit)) ⌝ }
 {
     let endianness = s.endianness;
     let subsampling = s.subsampling;
     let columns = 2 * (width / 2);
-    exchange::exchange(endianness, columns, luma);
-    exchange::exchange(endianness, elements_over(subsampling, columns), chroma);
+    exchange(endianness, columns, luma);
+    exchange(endianness, elements_over(subsampling, columns), chroma);
 }
 
 // A luma row and a chroma row from one source row.
@@ -67,7 +67,7 @@ pub fn halved_columns(
     requires { ⌜ Usable s w ⌝ }
     requires { ⌜ RowLengths s width (length (now luma)) (length (now chroma)) ⌝ }
     requires { ⌜ Part s width (now rgba) ⌝ }
-    ensures { λ _. ⌜ PairsWritten (s .subsampling) width (lumaWords s w (now (rgba .entry))) (chromaWords s w width false (now (rgba .entry)) (now (rgba .entry))) (now (luma .entry)) (now (luma .exit)) (now (chroma .entry)) (now (chroma .exit)) ⌝ }
+    ensures { λ _. ⌜ ColumnsWritten s w width false (now (rgba .entry)) (now (rgba .entry)) (now (luma .entry)) (now (luma .exit)) (now (chroma .entry)) (now (chroma .exit)) ⌝ }
 {
     halved_packed(s, w, width, luma, chroma, rgba);
     exchange_columns(s, width, luma, chroma);
@@ -86,9 +86,9 @@ pub fn double_columns(
     requires { ⌜ (Usable s w) × (paired (s .subsampling) ≡ true) ⌝ }
     requires { ⌜ RowLengths s width (length (now luma)) (length (now chroma)) ⌝ }
     requires { ⌜ (Part s width (now upper)) × (Part s width (now lower)) ⌝ }
-    ensures { λ _. ⌜ PairsWritten (s .subsampling) width (lumaWords s w (now (upper .entry))) (chromaWords s w width true (now (upper .entry)) (now (lower .entry))) (now (luma .entry)) (now (luma .exit)) (now (chroma .entry)) (now (chroma .exit)) ⌝ }
+    ensures { λ _. ⌜ ColumnsWritten s w width true (now (upper .entry)) (now (lower .entry)) (now (luma .entry)) (now (luma .exit)) (now (chroma .entry)) (now (chroma .exit)) ⌝ }
 {
-    loops::block_loop(s, w, width, luma, chroma, upper, lower);
+    block_loop(s, w, width, luma, chroma, upper, lower);
     exchange_columns(s, width, luma, chroma);
 }
 
@@ -100,6 +100,6 @@ pub fn luma_columns(s: Settings, w: Weights, width: usize, luma: &mut [u16], rgb
     ensures { λ _. ⌜ Begun (evenColumns width) (lumaWords s w (now (rgba .entry))) (now (luma .entry)) (now (luma .exit)) ⌝ }
 {
     let endianness = s.endianness;
-    loops::luma_loop(s, w, width, luma, rgba);
-    exchange::exchange(endianness, 2 * (width / 2), luma);
+    luma_loop(s, w, width, luma, rgba);
+    exchange(endianness, 2 * (width / 2), luma);
 }

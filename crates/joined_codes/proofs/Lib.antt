@@ -1,3 +1,3 @@
-pub mod Bits
-pub mod Stores
+pub mod MachineSums
 pub mod Sums
+pub mod Words

@@ -9,7 +9,7 @@ ghost use Rattle.rule_laws.specs.Usable.{Usable};
 ghost use Rattle.blocks.specs.Tiles.{paired};
 ghost use Rattle.frames.specs.Rows.{Part};
 ghost use Rattle.last_column.specs.Words.{lumaWords, chromaWords};
-ghost use Rattle.column_pairs.specs.Pairs.{RowLengths};
+ghost use Rattle.last_column.specs.Columns.{RowLengths};
 use column_pairs::double_columns;
 use column_pairs::halved_columns;
 use column_pairs::luma_columns;

@@ -2,7 +2,8 @@
 use borrow.Author.Needs.{needs}
 use mathlib.Core.Path.{ap}
 use native.Mathlib.Omega.{arith}
-use Rattle.column_pairs.proofs.Exchanges.{exchanged-same, elements-in}
+use Rattle.byte_exchange.proofs.Exchanges.{exchanged-same}
+use Rattle.column_pairs.proofs.Exchanges.{elements-in}
 use Rattle.column_pairs.proofs.exchange_columns.Statement.{statement}
 use Rattle.column_pairs.proofs.exchange_columns.Tie as tie
 

@@ -1,8 +1,7 @@
 -- `column_pairs::luma_columns` meets its contract. Assumes nothing.
 use borrow.Author.Needs.{needs}
 use Rattle.frames.specs.Rows.{rowPixel}
-use Rattle.column_pairs.proofs.Readings.{luma-exchanged}
-use Rattle.column_pairs.proofs.Exchanges.{begun-exchanged}
+use Rattle.column_pairs.proofs.Exchanges.{luma-exchanged, begun-exchanged}
 use Rattle.column_pairs.proofs.luma_columns.Statement.{statement}
 use Rattle.column_pairs.proofs.luma_columns.Tie as tie
 
