@@ -15,7 +15,7 @@ use Rattle.rules.specs.Storage.{exchanged, word}
 use Rattle.rules.specs.Convert.{wordOf}
 use Rattle.plane_laws.specs.Rows.{Begun}
 use Rattle.last_column.specs.Words.{lumaElement, chromaElement}
-use Rattle.last_column.specs.Columns.{evenColumns, elementsOver}
+use Rattle.last_column.specs.Columns.{evenElements}
 use Rattle.byte_exchange.specs.Exchanged.{Exchanged}
 use Rattle.packed_store.specs.Packed.{packedLumaAt, packedChromaAt}
 use Rattle.packed_store.specs.Pairs.{PairsWritten}
@@ -47,7 +47,7 @@ pub pairs-exchanged : (s : Settings) {width : ℕ} {f g f′ g′ : ℕ → ℕ}
 pairs-exchanged s ef eg p x = record { in-luma = begun-exchanged (p .in-luma) (x .in-luma) ef; in-chroma = begun-exchanged (p .in-chroma) (x .in-chroma) eg }
 
 -- the elements over those columns lie in a chroma row
-pub elements-in : (o : YuvChromaSubsampling) (width : ℕ) → elementsOver o (evenColumns width) ≤ chromaWidth o width
+pub elements-in : (o : YuvChromaSubsampling) (width : ℕ) → evenElements o width ≤ chromaWidth o width
 elements-in Yuv420 width = omega arith
 elements-in Yuv422 width = omega arith
 elements-in Yuv444 width = omega arith

@@ -5,7 +5,7 @@ use mathlib.Core.List.{List}
 use Rattle.rules.specs.declared.Settings.{Settings}
 use Rattle.rules.specs.declared.Weights.{Weights}
 use Rattle.last_column.specs.Words.{lumaWords, chromaWords}
-use Rattle.last_column.specs.Columns.{evenColumns, elementsOver}
+use Rattle.last_column.specs.Columns.{evenColumns, evenElements}
 use Rattle.byte_exchange.specs.Exchanged.{Exchanged}
 use Rattle.packed_store.specs.Pairs.{PairsWritten}
 
@@ -17,4 +17,4 @@ ColumnsWritten s w width two upper lower luma luma′ chroma chroma′ =
 -- their bytes are exchanged
 pub record ColumnsExchanged (s : Settings) (width : ℕ) (luma luma′ chroma chroma′ : List ℕ) : Type 0 where
   pub in-luma : Exchanged (s .endianness) (evenColumns width) luma luma′
-  pub in-chroma : Exchanged (s .endianness) (elementsOver (s .subsampling) (evenColumns width)) chroma chroma′
+  pub in-chroma : Exchanged (s .endianness) (evenElements (s .subsampling) width) chroma chroma′

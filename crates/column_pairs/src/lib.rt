@@ -6,7 +6,7 @@ ghost use lib.ListN.{length};
 ghost use Rattle.rule_laws.specs.Usable.{Usable};
 ghost use Rattle.blocks.specs.Tiles.{paired};
 ghost use Rattle.plane_laws.specs.Rows.{Begun};
-ghost use Rattle.frames.specs.Rows.{Part};
+ghost use Rattle.frames.specs.Rows.{Convertible};
 ghost use Rattle.last_column.specs.Words.{lumaWords};
 ghost use Rattle.last_column.specs.Columns.{evenColumns, RowLengths};
 ghost use Rattle.packed_store.specs.Pairs.{PackedWritten};
@@ -32,7 +32,7 @@ fn halved_packed(
 )
     requires { ⌜ Usable s w ⌝ }
     requires { ⌜ RowLengths s width (length (now luma)) (length (now chroma)) ⌝ }
-    requires { ⌜ Part s width (now rgba) ⌝ }
+    requires { ⌜ Convertible s width (now rgba) ⌝ }
     ensures { λ _. ⌜ PackedWritten s w width false (now (rgba .entry)) (now (rgba .entry)) (now (luma .entry)) (now (luma .exit)) (now (chroma .entry)) (now (chroma .exit)) ⌝ }
 {
     let subsampling = s.subsampling;
@@ -66,7 +66,7 @@ pub fn halved_columns(
 )
     requires { ⌜ Usable s w ⌝ }
     requires { ⌜ RowLengths s width (length (now luma)) (length (now chroma)) ⌝ }
-    requires { ⌜ Part s width (now rgba) ⌝ }
+    requires { ⌜ Convertible s width (now rgba) ⌝ }
     ensures { λ _. ⌜ ColumnsWritten s w width false (now (rgba .entry)) (now (rgba .entry)) (now (luma .entry)) (now (luma .exit)) (now (chroma .entry)) (now (chroma .exit)) ⌝ }
 {
     halved_packed(s, w, width, luma, chroma, rgba);
@@ -85,7 +85,7 @@ pub fn double_columns(
 )
     requires { ⌜ (Usable s w) × (paired (s .subsampling) ≡ true) ⌝ }
     requires { ⌜ RowLengths s width (length (now luma)) (length (now chroma)) ⌝ }
-    requires { ⌜ (Part s width (now upper)) × (Part s width (now lower)) ⌝ }
+    requires { ⌜ (Convertible s width (now upper)) × (Convertible s width (now lower)) ⌝ }
     ensures { λ _. ⌜ ColumnsWritten s w width true (now (upper .entry)) (now (lower .entry)) (now (luma .entry)) (now (luma .exit)) (now (chroma .entry)) (now (chroma .exit)) ⌝ }
 {
     block_loop(s, w, width, luma, chroma, upper, lower);
@@ -96,7 +96,7 @@ pub fn double_columns(
 pub fn luma_columns(s: Settings, w: Weights, width: usize, luma: &mut [u16], rgba: &[u16])
     requires { ⌜ Usable s w ⌝ }
     requires { ⌜ (width ≤ 16384) × (length (now luma) ≡ width) ⌝ }
-    requires { ⌜ Part s width (now rgba) ⌝ }
+    requires { ⌜ Convertible s width (now rgba) ⌝ }
     ensures { λ _. ⌜ Begun (evenColumns width) (lumaWords s w (now (rgba .entry))) (now (luma .entry)) (now (luma .exit)) ⌝ }
 {
     let endianness = s.endianness;

@@ -16,7 +16,7 @@ use Rattle.rules.specs.Ranges.{most}
 use Rattle.rules.specs.Channels.{count, redAt, greenAt, blueAt, pixelAt, picture}
 use Rattle.rule_laws.specs.Codes.{Low}
 use Rattle.plane_laws.proofs.Tables.{step-le}
-use Rattle.frames.specs.Rows.{Shows, Part}
+use Rattle.frames.specs.Rows.{Shows, Convertible}
 use Rattle.frames.specs.SourceRows.{SourceRow}
 use Rattle.frames.specs.Tests.{Sized, Ready}
 
@@ -73,9 +73,9 @@ source-row c f source row n exact fits =
     record { long = omega arith; shows = part-shows c source (f .«source_stride») (f .width) row n (omega arith) }
 
 -- a row of a source that is ready can be converted
-pub part-of : {s : Settings} {f : Frame} {source : List ℕ} {luma chroma row : ℕ} {part : List ℕ} → Ready s f source luma chroma → row < f .height → SourceRow (s .channels) f source row part
-    → Part s (f .width) part
-part-of {s} {row = row} ready within r =
+pub convertible : {s : Settings} {f : Frame} {source : List ℕ} {luma chroma row : ℕ} {part : List ℕ} → Ready s f source luma chroma → row < f .height → SourceRow (s .channels) f source row part
+    → Convertible s (f .width) part
+convertible {s} {row = row} ready within r =
     record {
       long = omega (arith, r .long);
       low = record { low = λ x b. subst⁻¹ (Low (most (s .depth))) (r .shows .same x b) (ready .low .low row within .low x b) };

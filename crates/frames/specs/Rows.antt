@@ -31,7 +31,7 @@ pub record LowRow (m : ℕ) (p : ℕ → Pixel) (width : ℕ) : Type 0 where
 pub record LowPicture (m : ℕ) (px : Picture) (width height : ℕ) : Type 0 where
   pub low : (row : ℕ) → row < height → LowRow m (px row) width
 
--- a row part holds exactly `width` pixels, of which no sample exceeds m
-pub record Part (s : Settings) (width : ℕ) (part : List ℕ) : Type 0 where
+-- a row part can be converted: it holds exactly `width` pixels, and no colour sample of theirs exceeds m
+pub record Convertible (s : Settings) (width : ℕ) (part : List ℕ) : Type 0 where
   pub long : length part ≡ width * count (s .channels)
   pub low : LowRow (most (s .depth)) (rowPixel (s .channels) part) width

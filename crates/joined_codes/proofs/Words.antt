@@ -151,11 +151,11 @@ module _ (s : Settings) (w : Weights) (u : Usable s w) (j : FrameWeights) (e : j
     abbrev seen : Pixel
     seen = coloursOf (s .channels) p
 
-    pub luma-below : code (s .precision) lumaBias (lumaRow w) seen < 2 ^ s .depth
-    luma-below = code-below (s .depth) (s .precision) lumaBias (lumaRow w) seen (u .luma-coded _ (colours-low (s .channels) low))
+    pub luma-in-depth : code (s .precision) lumaBias (lumaRow w) seen < 2 ^ s .depth
+    luma-in-depth = code-below (s .depth) (s .precision) lumaBias (lumaRow w) seen (u .luma-coded _ (colours-low (s .channels) low))
 
-    pub chroma-below : (b : Bool) → code (s .precision) (biasUV (s .depth)) (chromaRow b w) seen < 2 ^ s .depth
-    chroma-below b = code-below (s .depth) (s .precision) (biasUV (s .depth)) (chromaRow b w) seen (chroma-coded s w b u _ (colours-low (s .channels) low))
+    pub chroma-in-depth : (b : Bool) → code (s .precision) (biasUV (s .depth)) (chromaRow b w) seen < 2 ^ s .depth
+    chroma-in-depth b = code-below (s .depth) (s .precision) (biasUV (s .depth)) (chromaRow b w) seen (chroma-coded s w b u _ (colours-low (s .channels) low))
 
     pub chroma-fits : SumFits (j .chroma) (p .red) (p .green) (p .blue)
     chroma-fits =

@@ -8,7 +8,7 @@ use Rattle.rules.specs.declared.YuvChromaSubsampling.{YuvChromaSubsampling}
 use Rattle.rules.specs.declared.YuvChromaSubsampling.the-variants.{Yuv420, Yuv422, Yuv444}
 use Rattle.rules.specs.Blocks.{chromaWidth}
 use Rattle.blocks.specs.Tiles.{leftOf, wideAt}
-use Rattle.last_column.specs.Columns.{evenColumns, elementsOver}
+use Rattle.last_column.specs.Columns.{evenColumns, elementsOver, evenElements}
 
 pub odd : (width : ℕ) → (width % 2 ≡ 0 → ⊥) → width % 2 ≡ 1
 odd width h = by (width % 2) (omega arith) h
@@ -18,7 +18,7 @@ odd width h = by (width % 2) (omega arith) h
     by (suc r) l g = omega arith
 
 -- with an even width no column is left, and no chroma element
-pub none-left : (o : YuvChromaSubsampling) (width : ℕ) → width % 2 ≡ 0 → chromaWidth o width ≤ elementsOver o (evenColumns width)
+pub none-left : (o : YuvChromaSubsampling) (width : ℕ) → width % 2 ≡ 0 → chromaWidth o width ≤ evenElements o width
 none-left Yuv420 width h = omega arith
 none-left Yuv422 width h = omega arith
 none-left Yuv444 width h = omega arith

@@ -17,7 +17,7 @@ use Rattle.blocks.specs.Tiles.{leftOf, wideAt, topOf, twoAt, tiles}
 use Rattle.blocks.proofs.Tiles.{block-tiles, left-below, wide-below, tiles-same}
 use Rattle.last_column.specs.Words.{pairMean, chromaElement}
 
--- an element by cases is the word of the rules
+-- an element from the source rows of its block is the word of the rules
 pub element-is : (s : Settings) (w : Weights) (width height : ℕ) (px : Picture) (row k : ℕ)
     → let top = topOf (s .subsampling) row in
     chromaWord s w width height px row k ≡ chromaElement s w width (twoAt (s .subsampling) height top) (px top) (px (top + 1)) k

@@ -10,11 +10,15 @@ use Rattle.rules.specs.Blocks.{chromaWidth}
 abbrev pub evenColumns : ℕ → ℕ
 evenColumns width = 2 * (width / 2)
 
--- the chroma elements of the first columns, which are even in number
+-- the chroma elements of so many first columns, for an even number of columns
 abbrev pub elementsOver : YuvChromaSubsampling → ℕ → ℕ
 elementsOver Yuv420 columns = columns
 elementsOver Yuv422 columns = columns
 elementsOver Yuv444 columns = 2 * columns
+
+-- the chroma elements of all columns but an odd last one
+abbrev pub evenElements : YuvChromaSubsampling → ℕ → ℕ
+evenElements sub width = elementsOver sub (evenColumns width)
 
 -- the lengths of a luma row and of a chroma row without their padding
 pub record RowLengths (s : Settings) (width luma chroma : ℕ) : Type 0 where

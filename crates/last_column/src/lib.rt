@@ -8,9 +8,9 @@ ghost use Rattle.rules.specs.Blocks.{averaged, chromaWidth};
 ghost use Rattle.rule_laws.specs.Usable.{Usable};
 ghost use Rattle.blocks.specs.Tiles.{tiles};
 ghost use Rattle.plane_laws.specs.Rows.{Finished};
-ghost use Rattle.frames.specs.Rows.{rowPixel, Part};
+ghost use Rattle.frames.specs.Rows.{rowPixel, Convertible};
 ghost use Rattle.last_column.specs.Words.{lumaWords, chromaWords};
-ghost use Rattle.last_column.specs.Columns.{evenColumns, elementsOver};
+ghost use Rattle.last_column.specs.Columns.{evenColumns, elementsOver, evenElements};
 use blocks::mean;
 use frames::pixels;
 use rules::Pixel;
@@ -24,7 +24,7 @@ use samples::word;
 pub fn last_luma(s: Settings, w: Weights, width: usize, luma: &mut [u16], rgba: &[u16])
     requires { ⌜ Usable s w ⌝ }
     requires { ⌜ (width ≤ 16384) × (length (now luma) ≡ width) ⌝ }
-    requires { ⌜ Part s width (now rgba) ⌝ }
+    requires { ⌜ Convertible s width (now rgba) ⌝ }
     ensures { λ _. ⌜ Finished (evenColumns width) (lumaWords s w (now (rgba .entry))) (now (luma .entry)) (now (luma .exit)) ⌝ }
 {
     let channels = s.channels;
@@ -36,7 +36,7 @@ pub fn last_luma(s: Settings, w: Weights, width: usize, luma: &mut [u16], rgba: 
     luma[x] = word::luma_word(s, w, p);
 }
 
-// The chroma elements of the first columns.
+// How many chroma elements an even number of first columns have.
 pub fn elements_over(subsampling: YuvChromaSubsampling, columns: usize) -> usize
     requires { ⌜ columns ≤ 16384 ⌝ }
     ensures { λ r. ⌜ r ≡ elementsOver subsampling columns ⌝ }
@@ -81,8 +81,8 @@ pub fn last_pair(
 )
     requires { ⌜ Usable s w ⌝ }
     requires { ⌜ (width ≤ 16384) × (length (now chroma) ≡ chromaWidth (s .subsampling) width) ⌝ }
-    requires { ⌜ (Part s width (now upper)) × (Part s width (now lower)) ⌝ }
-    ensures { λ _. ⌜ Finished (elementsOver (s .subsampling) (evenColumns width)) (chromaWords s w width two (now (upper .entry)) (now (lower .entry))) (now (chroma .entry)) (now (chroma .exit)) ⌝ }
+    requires { ⌜ (Convertible s width (now upper)) × (Convertible s width (now lower)) ⌝ }
+    ensures { λ _. ⌜ Finished (evenElements (s .subsampling) width) (chromaWords s w width two (now (upper .entry)) (now (lower .entry))) (now (chroma .entry)) (now (chroma .exit)) ⌝ }
 {
     let channels = s.channels;
     let subsampling = s.subsampling;

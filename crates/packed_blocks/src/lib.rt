@@ -5,7 +5,7 @@ ghost use mathlib.Core.Bool.{true};
 ghost use lib.ListN.{length};
 ghost use Rattle.rule_laws.specs.Usable.{Usable};
 ghost use Rattle.blocks.specs.Tiles.{paired};
-ghost use Rattle.frames.specs.Rows.{Part};
+ghost use Rattle.frames.specs.Rows.{Convertible};
 ghost use Rattle.last_column.specs.Columns.{RowLengths};
 ghost use Rattle.packed_store.specs.Pairs.{PackedWritten};
 use blocks::mean;
@@ -30,7 +30,7 @@ pub fn block_loop(
 )
     requires { ⌜ (Usable s w) × (paired (s .subsampling) ≡ true) ⌝ }
     requires { ⌜ RowLengths s width (length (now luma)) (length (now chroma)) ⌝ }
-    requires { ⌜ (Part s width (now upper)) × (Part s width (now lower)) ⌝ }
+    requires { ⌜ (Convertible s width (now upper)) × (Convertible s width (now lower)) ⌝ }
     ensures { λ _. ⌜ PackedWritten s w width true (now (upper .entry)) (now (lower .entry)) (now (luma .entry)) (now (luma .exit)) (now (chroma .entry)) (now (chroma .exit)) ⌝ }
 {
     let channels = s.channels;

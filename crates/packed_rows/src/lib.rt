@@ -8,7 +8,7 @@ ghost use Rattle.rules.specs.declared.YuvChromaSubsampling.the-variants.{Yuv444
 ghost use Rattle.rule_laws.specs.Usable.{Usable};
 ghost use Rattle.blocks.specs.Tiles.{paired};
 ghost use Rattle.plane_laws.specs.Rows.{Begun};
-ghost use Rattle.frames.specs.Rows.{Part};
+ghost use Rattle.frames.specs.Rows.{Convertible};
 ghost use Rattle.last_column.specs.Columns.{evenColumns, RowLengths};
 ghost use Rattle.packed_store.specs.Packed.{packedLumaRow};
 ghost use Rattle.packed_store.specs.Pairs.{PackedWritten};
@@ -26,7 +26,7 @@ use yuv_support::channels::get_channels_count;
 pub fn luma_loop(s: Settings, w: Weights, width: usize, luma: &mut [u16], rgba: &[u16])
     requires { ⌜ Usable s w ⌝ }
     requires { ⌜ (width ≤ 16384) × (length (now luma) ≡ width) ⌝ }
-    requires { ⌜ Part s width (now rgba) ⌝ }
+    requires { ⌜ Convertible s width (now rgba) ⌝ }
     ensures { λ _. ⌜ Begun (evenColumns width) (packedLumaRow s w (now (rgba .entry))) (now (luma .entry)) (now (luma .exit)) ⌝ }
 {
     let channels = s.channels;
@@ -54,7 +54,7 @@ pub fn single_loop(
 )
     requires { ⌜ (Usable s w) × (s .subsampling ≡ Yuv444) ⌝ }
     requires { ⌜ RowLengths s width (length (now luma)) (length (now chroma)) ⌝ }
-    requires { ⌜ Part s width (now rgba) ⌝ }
+    requires { ⌜ Convertible s width (now rgba) ⌝ }
     ensures { λ _. ⌜ PackedWritten s w width false (now (rgba .entry)) (now (rgba .entry)) (now (luma .entry)) (now (luma .exit)) (now (chroma .entry)) (now (chroma .exit)) ⌝ }
 {
     let channels = s.channels;
@@ -84,7 +84,7 @@ pub fn paired_loop(
 )
     requires { ⌜ (Usable s w) × (paired (s .subsampling) ≡ true) ⌝ }
     requires { ⌜ RowLengths s width (length (now luma)) (length (now chroma)) ⌝ }
-    requires { ⌜ Part s width (now rgba) ⌝ }
+    requires { ⌜ Convertible s width (now rgba) ⌝ }
     ensures { λ _. ⌜ PackedWritten s w width false (now (rgba .entry)) (now (rgba .entry)) (now (luma .entry)) (now (luma .exit)) (now (chroma .entry)) (now (chroma .exit)) ⌝ }
 {
     let channels = s.channels;

@@ -26,7 +26,7 @@ use Rattle.tolerance_laws.proofs.Means.{averaged-one}
 use Rattle.plane_laws.proofs.Tables.{step-le}
 use Rattle.blocks.specs.Tiles.{paired, leftOf, wideAt}
 use Rattle.joined_codes.specs.Packed.{coloursOf, packedLuma, packedChroma}
-use Rattle.frames.specs.Rows.{rowPixel, Part}
+use Rattle.frames.specs.Rows.{rowPixel, Convertible}
 use Rattle.last_column.specs.Words.{pairMean}
 use Rattle.packed_store.specs.Packed.{packedLumaAt, packedChromaAt}
 use Rattle.last_column.proofs.Tiles.{found}
@@ -51,7 +51,7 @@ row-low Rgba part x h = h
 row-low Bgra part x h = record { red = h .blue; green = h .green; blue = h .red }
 row-low Bgr part x h = record { red = h .blue; green = h .green; blue = h .red }
 
-module _ (s : Settings) {width : ℕ} {part : List ℕ} (h : Part s width part) {n : ℕ} (en : n ≡ count (s .channels)) where
+module _ (s : Settings) {width : ℕ} {part : List ℕ} (h : Convertible s width part) {n : ℕ} (en : n ≡ count (s .channels)) where
   -- the pixel of column x, which was read from index i on
   module _ (x i : ℕ) (ei : i ≡ x * n) where
     here : i ≡ x * count (s .channels)

@@ -1,4 +1,4 @@
--- One turn of a loop over a row: two columns, where they lie and what they add; and where the loop ends. Assumes nothing.
+-- One turn of a loop over a row writes two columns: where they lie, what they add to the rows written so far, and that the loop ends with the last two. Assumes nothing.
 use mathlib.Core.Path.{_≡_, refl, sym, ap, _∙_, subst}
 use mathlib.Core.Logic.{⊎-elim}
 use mathlib.Core.Bool.{Bool, true, false, true≢false}
@@ -23,7 +23,7 @@ use Rattle.plane_laws.proofs.Tests.{lt-or-le}
 use Rattle.plane_laws.proofs.Tables.{begun-two, begun-at}
 use Rattle.blocks.specs.Tiles.{paired}
 use Rattle.joined_codes.specs.Packed.{coloursOf, packedLuma, packedChroma}
-use Rattle.frames.specs.Rows.{rowPixel, Part}
+use Rattle.frames.specs.Rows.{rowPixel, Convertible}
 use Rattle.last_column.specs.Words.{pairMean}
 use Rattle.last_column.specs.Columns.{evenColumns, elementsOver}
 use Rattle.packed_store.specs.Packed.{packedLumaAt, packedChromaAt}
@@ -45,20 +45,20 @@ row-short Bgra width h = omega arith
 row-short Bgr width h = omega arith
 
 -- the columns x and x + 1 of a row of `width`, whose samples start at index i, with n samples for a pixel
-pub record Columns (width n x i : ℕ) : Type 0 where
-  pub below : x + 2 ≤ width
+pub record TwoColumns (width n x i : ℕ) : Type 0 where
+  pub inside : x + 2 ≤ width
   pub short : i + 2 * n ≤ 65536
   pub second : i + n ≡ (x + 1) * n
 
--- two pixels that were read, and what they show
-pub record Pixels (s : Settings) (part : List ℕ) (x : ℕ) (p q : Pixel) : Type 0 where
+-- two pixels that were read from a row part: no sample exceeds m, and their colours are those of columns x and x + 1
+pub record TwoPixels (s : Settings) (part : List ℕ) (x : ℕ) (p q : Pixel) : Type 0 where
   pub first-low : Low (most (s .depth)) p
   pub second-low : Low (most (s .depth)) q
   pub first-is : coloursOf (s .channels) p ≡ rowPixel (s .channels) part x
   pub second-is : coloursOf (s .channels) q ≡ rowPixel (s .channels) part (x + 1)
 
-module _ (s : Settings) {width : ℕ} {part : List ℕ} (h : Part s width part) {n : ℕ} (en : n ≡ count (s .channels)) where
-  -- a pixel has from three to four samples, and a row not more than 65,536
+module _ (s : Settings) {width : ℕ} {part : List ℕ} (h : Convertible s width part) {n : ℕ} (en : n ≡ count (s .channels)) where
+  -- a pixel has three or four samples, and a row at most 65,536
   pub least : 3 ≤ n
   least = omega (arith, en, count-some (s .channels))
 
@@ -72,29 +72,29 @@ module _ (s : Settings) {width : ℕ} {part : List ℕ} (h : Part s width part) 
   long-by = h .long ∙ sym (ap (λ (k : ℕ). width * k) en)
 
   module _ (x i : ℕ) (ei : i ≡ x * n) where
-    -- by a count of columns
-    pub columns-at : width ≤ 16384 → x + 2 ≤ width → Columns width n x i
+    -- where the columns left are counted
+    pub columns-at : width ≤ 16384 → x + 2 ≤ width → TwoColumns width n x i
     columns-at narrow b =
         let l : (x + 2) * n ≤ width * n = mul-le-mul-right n b in
-        record { below = b; short = omega (arith, ei, l, long-by, part-short narrow); second = omega (arith, ei) }
+        record { inside = b; short = omega (arith, ei, l, long-by, part-short narrow); second = omega (arith, ei) }
 
-    -- by the length of the part
-    pub columns : width ≤ 16384 → i + 2 * n ≤ length part → Columns width n x i
+    -- where the part's length is tested
+    pub columns : width ≤ 16384 → i + 2 * n ≤ length part → TwoColumns width n x i
     columns narrow l =
         let g : (x + 2) * n ≤ width * n = omega (arith, ei, long-by, l) in
         columns-at narrow (le-of-mul-le-mul-right g (omega (arith, least)))
 
-    pub first-room : Columns width n x i → i + 3 ≤ length part
-    first-room c = at-room s h en x i ei (omega (arith, c .below))
+    pub first-room : TwoColumns width n x i → i + 3 ≤ length part
+    first-room c = at-room s h en x i ei (omega (arith, c .inside))
 
-    pub second-room : Columns width n x i → i + n + 3 ≤ length part
-    second-room c = at-room s h en (x + 1) (i + n) (c .second) (omega (arith, c .below))
+    pub second-room : TwoColumns width n x i → i + n + 3 ≤ length part
+    second-room c = at-room s h en (x + 1) (i + n) (c .second) (omega (arith, c .inside))
 
-    pub pixels : {p q : Pixel} → Columns width n x i → p ≡ pixelAt Rgb part i → q ≡ pixelAt Rgb part (i + n) → Pixels s part x p q
+    pub pixels : {p q : Pixel} → TwoColumns width n x i → p ≡ pixelAt Rgb part i → q ≡ pixelAt Rgb part (i + n) → TwoPixels s part x p q
     pixels c ep eq =
         record {
-          first-low = at-low s h en x i ei ep (omega (arith, c .below));
-          second-low = at-low s h en (x + 1) (i + n) (c .second) eq (omega (arith, c .below));
+          first-low = at-low s h en x i ei ep (omega (arith, c .inside));
+          second-low = at-low s h en (x + 1) (i + n) (c .second) eq (omega (arith, c .inside));
           first-is = at-is s h en x i ei ep;
           second-is = at-is s h en (x + 1) (i + n) (c .second) eq;
         }
@@ -110,7 +110,7 @@ module _ (s : Settings) {width : ℕ} {part : List ℕ} (h : Part s width part) 
 -- ---- what a turn adds
 
 module _ (s : Settings) (w : Weights) where
-  pub luma-turn : {part : List ℕ} {x : ℕ} {p q : Pixel} (old y : List ℕ) {z : List ℕ} → Pixels s part x p q → x + 2 ≤ length old
+  pub luma-turn : {part : List ℕ} {x : ℕ} {p q : Pixel} (old y : List ℕ) {z : List ℕ} → TwoPixels s part x p q → x + 2 ≤ length old
       → Begun x (packedLumaAt s w (rowPixel (s .channels) part)) old y
       → z ≡ set (set y x (packedLuma s w (coloursOf (s .channels) p))) (x + 1) (packedLuma s w (coloursOf (s .channels) q))
       → Begun (x + 2) (packedLumaAt s w (rowPixel (s .channels) part)) old z
@@ -147,7 +147,7 @@ elements-paired Yuv444 x e = absurd (true≢false (sym e))
 pub elements-single : (o : YuvChromaSubsampling) (x : ℕ) → o ≡ Yuv444 → 2 * x ≡ elementsOver o x
 elements-single o x e = sym (ap (λ (q : YuvChromaSubsampling). elementsOver q x) e)
 
--- all columns of both rows are passed
+-- once the loop has passed all columns but an odd last one, both rows are written
 module _ {o : YuvChromaSubsampling} {width x : ℕ} {f g : ℕ → ℕ} {luma luma′ chroma chroma′ : List ℕ} (e : x ≡ evenColumns width) (l : Begun x f luma luma′) where
   pub pairs-written : paired o ≡ true → Begun x g chroma chroma′ → PairsWritten o width f g luma luma′ chroma chroma′
   pairs-written p c = record { in-luma = begun-at e l; in-chroma = begun-at (elements-paired o x p ∙ ap (elementsOver o) e) c }

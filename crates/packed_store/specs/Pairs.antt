@@ -6,13 +6,13 @@ use Rattle.rules.specs.declared.Settings.{Settings}
 use Rattle.rules.specs.declared.Weights.{Weights}
 use Rattle.rules.specs.declared.YuvChromaSubsampling.{YuvChromaSubsampling}
 use Rattle.plane_laws.specs.Rows.{Begun}
-use Rattle.last_column.specs.Columns.{evenColumns, elementsOver}
+use Rattle.last_column.specs.Columns.{evenColumns, evenElements}
 use Rattle.packed_store.specs.Packed.{packedLumaRow, packedChromaRow}
 
 -- all columns but an odd last one of both rows are replaced by f's and g's
 pub record PairsWritten (o : YuvChromaSubsampling) (width : ℕ) (f g : ℕ → ℕ) (luma luma′ chroma chroma′ : List ℕ) : Type 0 where
   pub in-luma : Begun (evenColumns width) f luma luma′
-  pub in-chroma : Begun (elementsOver o (evenColumns width)) g chroma chroma′
+  pub in-chroma : Begun (evenElements o width) g chroma chroma′
 
 -- they are replaced by the words of the upper source row and of one or two source rows, before the bytes are exchanged
 abbrev pub PackedWritten : Settings → Weights → ℕ → Bool → List ℕ → List ℕ → List ℕ → List ℕ → List ℕ → List ℕ → Type 0

@@ -7,7 +7,7 @@ ghost use Rattle.rules.specs.Blocks.{chromaWidth};
 ghost use Rattle.rules.specs.Planes.{tabulate};
 ghost use Rattle.rule_laws.specs.Usable.{Usable};
 ghost use Rattle.blocks.specs.Tiles.{paired};
-ghost use Rattle.frames.specs.Rows.{Part};
+ghost use Rattle.frames.specs.Rows.{Convertible};
 ghost use Rattle.last_column.specs.Words.{lumaWords, chromaWords};
 ghost use Rattle.last_column.specs.Columns.{RowLengths};
 use column_pairs::double_columns;
@@ -29,7 +29,7 @@ fn process_halved_row(
 )
     requires { ⌜ Usable s w ⌝ }
     requires { ⌜ RowLengths s width (length (now luma)) (length (now chroma)) ⌝ }
-    requires { ⌜ Part s width (now rgba) ⌝ }
+    requires { ⌜ Convertible s width (now rgba) ⌝ }
     ensures { λ _. ⌜ now (luma .exit) ≡ tabulate width (lumaWords s w (now (rgba .entry))) ⌝ }
     ensures { λ _. ⌜ now (chroma .exit) ≡ tabulate (chromaWidth (s .subsampling) width) (chromaWords s w width false (now (rgba .entry)) (now (rgba .entry))) ⌝ }
 {
@@ -50,7 +50,7 @@ fn process_double_row(
 )
     requires { ⌜ (Usable s w) × (paired (s .subsampling) ≡ true) ⌝ }
     requires { ⌜ RowLengths s width (length (now luma)) (length (now chroma)) ⌝ }
-    requires { ⌜ (Part s width (now upper)) × (Part s width (now lower)) ⌝ }
+    requires { ⌜ (Convertible s width (now upper)) × (Convertible s width (now lower)) ⌝ }
     ensures { λ _. ⌜ now (luma .exit) ≡ tabulate width (lumaWords s w (now (upper .entry))) ⌝ }
     ensures { λ _. ⌜ now (chroma .exit) ≡ tabulate (chromaWidth (s .subsampling) width) (chromaWords s w width true (now (upper .entry)) (now (lower .entry))) ⌝ }
 {
@@ -72,7 +72,7 @@ pub fn process_row(
 )
     requires { ⌜ (Usable s w) × (two ≡ true → paired (s .subsampling) ≡ true) ⌝ }
     requires { ⌜ RowLengths s width (length (now luma)) (length (now chroma)) ⌝ }
-    requires { ⌜ (Part s width (now upper)) × (Part s width (now lower)) ⌝ }
+    requires { ⌜ (Convertible s width (now upper)) × (Convertible s width (now lower)) ⌝ }
     ensures { λ _. ⌜ now (luma .exit) ≡ tabulate width (lumaWords s w (now (upper .entry))) ⌝ }
     ensures { λ _. ⌜ now (chroma .exit) ≡ tabulate (chromaWidth (s .subsampling) width) (chromaWords s w width two (now (upper .entry)) (now (lower .entry))) ⌝ }
 {
@@ -87,7 +87,7 @@ pub fn process_row(
 pub fn process_luma_row(s: Settings, w: Weights, width: usize, luma: &mut [u16], rgba: &[u16])
     requires { ⌜ Usable s w ⌝ }
     requires { ⌜ (width ≤ 16384) × (length (now luma) ≡ width) ⌝ }
-    requires { ⌜ Part s width (now rgba) ⌝ }
+    requires { ⌜ Convertible s width (now rgba) ⌝ }
     ensures { λ _. ⌜ now (luma .exit) ≡ tabulate width (lumaWords s w (now (rgba .entry))) ⌝ }
 {
     luma_columns(s, w, width, luma, rgba);

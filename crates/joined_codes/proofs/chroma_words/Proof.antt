@@ -4,7 +4,7 @@ use mathlib.Core.Path.{_∙_}
 use native.Mathlib.Omega.{arith}
 use Rattle.rules.specs.Channels.{isU}
 use Rattle.samples.proofs.Codes.{most-small}
-use Rattle.joined_codes.proofs.Words.{below-is, chroma-below, chroma-fits, chroma-holds, not-negative, first-word, second-word, storable}
+use Rattle.joined_codes.proofs.Words.{below-is, chroma-in-depth, chroma-fits, chroma-holds, not-negative, first-word, second-word, storable}
 use Rattle.joined_codes.proofs.chroma_words.Statement.{statement}
 use Rattle.joined_codes.proofs.chroma_words.Tie as tie
 
@@ -37,7 +37,7 @@ stored-words-requires c κs =
     let e = pre .1 .0 in
     let low = pre .1 .1 in
     storable (v .s) (u .reach .deep) (chroma-holds (v .s) (v .w) u (v .joined) e (v .p) low) (c .sum .result) (v .joined .below) (c .sum .ensures) (below-is (v .s) (v .w) u (v .joined) e)
-    (chroma-below (v .s) (v .w) u (v .joined) e (v .p) low (isU (v .s .order) 0)) (chroma-below (v .s) (v .w) u (v .joined) e (v .p) low (isU (v .s .order) 1))
+    (chroma-in-depth (v .s) (v .w) u (v .joined) e (v .p) low (isU (v .s .order) 0)) (chroma-in-depth (v .s) (v .w) u (v .joined) e (v .p) low (isU (v .s .order) 1))
 
 returns : tie.Need-returns
 returns c =

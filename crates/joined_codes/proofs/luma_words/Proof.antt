@@ -3,7 +3,7 @@ use borrow.Author.Needs.{needs}
 use mathlib.Core.Path.{_≡_, _∙_}
 use lib.IntN.{natAbs}
 use Rattle.joined_codes.specs.Sums.{joinedSamples, joinedSum}
-use Rattle.joined_codes.proofs.Words.{below-is, luma-below, luma-fits, luma-holds, not-negative, first-word, second-word, storable}
+use Rattle.joined_codes.proofs.Words.{below-is, luma-in-depth, luma-fits, luma-holds, not-negative, first-word, second-word, storable}
 use Rattle.joined_codes.proofs.luma_words.Statement.{statement}
 use Rattle.joined_codes.proofs.luma_words.Tie as tie
 
@@ -45,7 +45,7 @@ stored-words-requires c κs =
     let e = pre .1 .0 in
     let h = luma-holds (v .s) (v .w) u (v .joined) e (v .p) (v .q) (pre .1 .1 .0) (pre .1 .1 .1) in
     storable (v .s) (u .reach .deep) h (c .sum .result) (v .joined .below) (total c) (below-is (v .s) (v .w) u (v .joined) e)
-    (luma-below (v .s) (v .w) u (v .joined) e (v .p) (pre .1 .1 .0)) (luma-below (v .s) (v .w) u (v .joined) e (v .q) (pre .1 .1 .1))
+    (luma-in-depth (v .s) (v .w) u (v .joined) e (v .p) (pre .1 .1 .0)) (luma-in-depth (v .s) (v .w) u (v .joined) e (v .q) (pre .1 .1 .1))
 
 returns : tie.Need-returns
 returns c =

@@ -14,7 +14,7 @@ use Rattle.plane_laws.proofs.Tables.{begun-none, begun-at}
 use Rattle.frames.specs.Rows.{rowPixel}
 use Rattle.packed_store.specs.Packed.{packedLumaRow, packedChromaRow}
 use Rattle.packed_store.proofs.Readings.{two-rows}
-use Rattle.packed_store.proofs.Turns.{Columns, Pixels, small, columns-at, first-room, second-room, pixels, luma-turn, pair-turn, wide-enough, pairs-written}
+use Rattle.packed_store.proofs.Turns.{TwoColumns, TwoPixels, small, columns-at, first-room, second-room, pixels, luma-turn, pair-turn, wide-enough, pairs-written}
 use Rattle.packed_blocks.proofs.block_loop.Statement.{statement}
 use Rattle.packed_blocks.proofs.block_loop.Tie as tie
 
@@ -25,13 +25,13 @@ abbrev μ-loop : tie.MeasureT-loop
 μ-loop s w width luma₀ chroma₀ upper lower n l pairs pair₀ luma chroma pair = width / 2 - pair
 
 -- the two columns of this turn, and their pixels in both rows
-spot : (c : tie.In-loop Inv-loop μ-loop) → Columns (c .before .before .before .before .before .before .before .before .args .width) (c .before .before .before .get-channels-count .result) (2 * c .before .loop .pair) (2 * c .before .loop .pair * c .before .before .before .get-channels-count .result)
+spot : (c : tie.In-loop Inv-loop μ-loop) → TwoColumns (c .before .before .before .before .before .before .before .before .args .width) (c .before .before .before .get-channels-count .result) (2 * c .before .loop .pair) (2 * c .before .loop .pair * c .before .before .before .get-channels-count .result)
 spot c = columns-at (c .before .before .before .before .before .before .before .before .args .s) (c .before .before .before .before .before .before .before .before .pre .1 .1 .0) (c .before .before .before .get-channels-count .ensures) (2 * c .before .loop .pair) (2 * c .before .loop .pair * c .before .before .before .get-channels-count .result) refl (c .before .before .before .before .before .before .before .before .pre .1 .0 .narrow) (omega (arith, c .loop-test .taken))
 
-read : (c : tie.After-pixel-at2 Inv-loop μ-loop) → Pixels (c .before .before .before .before .before .before .before .before .before .before .args .s) (c .before .before .before .before .before .before .before .before .before .before .args .upper .now) (2 * c .before .before .before .loop .pair) (c .before .pixel-at .result) (c .pixel-at2 .result)
+read : (c : tie.After-pixel-at2 Inv-loop μ-loop) → TwoPixels (c .before .before .before .before .before .before .before .before .before .before .args .s) (c .before .before .before .before .before .before .before .before .before .before .args .upper .now) (2 * c .before .before .before .loop .pair) (c .before .pixel-at .result) (c .pixel-at2 .result)
 read c = pixels (c .before .before .before .before .before .before .before .before .before .before .args .s) (c .before .before .before .before .before .before .before .before .before .before .pre .1 .1 .0) (c .before .before .before .before .before .get-channels-count .ensures) (2 * c .before .before .before .loop .pair) (2 * c .before .before .before .loop .pair * c .before .before .before .before .before .get-channels-count .result) refl (spot (c .before .before)) (c .before .pixel-at .ensures) (c .pixel-at2 .ensures)
 
-read-lower : (c : tie.After-pixel-at4 Inv-loop μ-loop) → Pixels (c .before .before .before .before .before .before .before .before .before .before .before .before .before .before .before .before .args .s) (c .before .before .before .before .before .before .before .before .before .before .before .before .before .before .before .before .args .lower .now) (2 * c .before .before .before .before .before .before .before .before .before .loop .pair) (c .before .pixel-at3 .result) (c .pixel-at4 .result)
+read-lower : (c : tie.After-pixel-at4 Inv-loop μ-loop) → TwoPixels (c .before .before .before .before .before .before .before .before .before .before .before .before .before .before .before .before .args .s) (c .before .before .before .before .before .before .before .before .before .before .before .before .before .before .before .before .args .lower .now) (2 * c .before .before .before .before .before .before .before .before .before .loop .pair) (c .before .pixel-at3 .result) (c .pixel-at4 .result)
 read-lower c = pixels (c .before .before .before .before .before .before .before .before .before .before .before .before .before .before .before .before .args .s) (c .before .before .before .before .before .before .before .before .before .before .before .before .before .before .before .before .pre .1 .1 .1) (c .before .before .before .before .before .before .before .before .before .before .before .get-channels-count .ensures) (2 * c .before .before .before .before .before .before .before .before .before .loop .pair) (2 * c .before .before .before .before .before .before .before .before .before .loop .pair * c .before .before .before .before .before .before .before .before .before .before .before .get-channels-count .result) refl (spot (c .before .before .before .before .before .before .before .before)) (c .before .pixel-at3 .ensures) (c .pixel-at4 .ensures)
 
 low-mean : (c : tie.After-mean-of-four Inv-loop μ-loop) → Low (most (c .before .before .before .before .before .before .before .before .before .before .before .before .before .before .before .before .before .before .args .s .depth)) (c .mean-of-four .result)
@@ -43,7 +43,7 @@ low-mean c =
 chroma-room : (c : tie.In-loop Inv-loop μ-loop) → 2 * c .before .loop .pair + 2 ≤ length (c .before .before .before .before .before .before .before .before .args .chroma .now)
 chroma-room c =
     let s = c .before .before .before .before .before .before .before .before in
-    omega (arith, spot c .below, s .pre .1 .0 .chroma-long, wide-enough (s .args .s .subsampling) (s .args .width))
+    omega (arith, spot c .inside, s .pre .1 .0 .chroma-long, wide-enough (s .args .s .subsampling) (s .args .width))
 
 get-channels-count-requires : tie.Need-get-channels-count-requires Inv-loop μ-loop
 get-channels-count-requires c κs = search needs
@@ -55,7 +55,7 @@ loop-holds : tie.Need-loop-holds Inv-loop μ-loop
 loop-holds c = (omega arith, (begun-none _ _, begun-none _ _))
 
 mul-x : tie.Need-mul-x Inv-loop μ-loop
-mul-x c = omega (arith, spot (c) .below, c .before .before .before .before .before .before .before .before .pre .1 .0 .narrow)
+mul-x c = omega (arith, spot (c) .inside, c .before .before .before .before .before .before .before .before .pre .1 .0 .narrow)
 
 mul-i : tie.Need-mul-i Inv-loop μ-loop
 mul-i c = omega (arith, spot (c) .short)
@@ -72,7 +72,7 @@ pixel-at-requires-2 c κs = second-room (c .before .before .before .before .befo
 put-luma-requires : tie.Need-put-luma-requires Inv-loop μ-loop
 put-luma-requires c κs =
     let g = read (c .before) in
-    ((c .before .before .before .before .before .before .before .before .before .before .before .pre .0 .0, c .before .before .before .before .before .frame-weights .ensures), ((g .first-low, g .second-low), omega (arith, spot (c .before .before .before) .below, c .before .before .before .before .before .before .before .before .before .before .before .pre .1 .0 .luma-long, c .before .before .before .before .loop .inv .1 .0 .long)))
+    ((c .before .before .before .before .before .before .before .before .before .before .before .pre .0 .0, c .before .before .before .before .before .frame-weights .ensures), ((g .first-low, g .second-low), omega (arith, spot (c .before .before .before) .inside, c .before .before .before .before .before .before .before .before .before .before .before .pre .1 .0 .luma-long, c .before .before .before .before .loop .inv .1 .0 .long)))
 
 pixel-at-requires-3 : tie.Need-pixel-at-requires-3 Inv-loop μ-loop
 pixel-at-requires-3 c κs = first-room (c .before .before .before .before .before .before .before .before .before .before .before .before .before .before .args .s) (c .before .before .before .before .before .before .before .before .before .before .before .before .before .before .pre .1 .1 .1) (c .before .before .before .before .before .before .before .before .before .get-channels-count .ensures) (2 * c .before .before .before .before .before .before .before .loop .pair) (2 * c .before .before .before .before .before .before .before .loop .pair * c .before .before .before .before .before .before .before .before .before .get-channels-count .result) refl (spot (c .before .before .before .before .before .before))
@@ -90,7 +90,7 @@ put-pair-requires : tie.Need-put-pair-requires Inv-loop μ-loop
 put-pair-requires c κs = ((c .before .before .before .before .before .before .before .before .before .before .before .before .before .before .before .before .before .before .pre .0 .0, c .before .before .before .before .before .before .before .before .before .before .before .before .frame-weights .ensures), (low-mean c, omega (arith, chroma-room (c .before .before .before .before .before .before .before .before .before .before), c .before .before .before .before .before .before .before .before .before .before .before .loop .inv .1 .1 .long)))
 
 add-pair : tie.Need-add-pair Inv-loop μ-loop
-add-pair c = omega (arith, spot (c .before .before .before .before .before .before .before .before .before .before .before .before .before) .below, c .before .before .before .before .before .before .before .before .before .before .before .before .before .before .before .before .before .before .before .before .before .pre .1 .0 .narrow)
+add-pair c = omega (arith, spot (c .before .before .before .before .before .before .before .before .before .before .before .before .before) .inside, c .before .before .before .before .before .before .before .before .before .before .before .before .before .before .before .before .before .before .before .before .before .pre .1 .0 .narrow)
 
 loop-less : tie.Need-loop-less Inv-loop μ-loop
 loop-less c = omega (arith, c .before .before .before .before .before .before .before .before .before .before .before .before .before .loop-test .taken)
@@ -107,8 +107,8 @@ loop-again c =
     let h = read-lower (c .before .before .before .before .before) in
     let even : x % 2 ≡ 0 = omega arith in
     let next : x + 2 ≡ 2 * (c .before .before .before .before .before .before .before .before .before .before .before .before .before .before .loop .pair + 1) = omega arith in
-    let room : x + 2 ≤ length (v .luma .now) = omega (arith, place .below, c .before .before .before .before .before .before .before .before .before .before .before .before .before .before .before .before .before .before .before .before .before .pre .1 .0 .luma-long) in
-    let mean = two-rows (v .s) (v .w) (v .width) t u x (c .before .before .before .before .before .before .before .before .before .before .before .before .before .before .before .before .before .before .before .before .before .pre .0 .1) even (omega (arith, place .below)) _ _ _ _ (c .before .before .before .mean-of-four .ensures) (g .first-is) (g .second-is) (h .first-is) (h .second-is) in (
+    let room : x + 2 ≤ length (v .luma .now) = omega (arith, place .inside, c .before .before .before .before .before .before .before .before .before .before .before .before .before .before .before .before .before .before .before .before .before .pre .1 .0 .luma-long) in
+    let mean = two-rows (v .s) (v .w) (v .width) t u x (c .before .before .before .before .before .before .before .before .before .before .before .before .before .before .before .before .before .before .before .before .before .pre .0 .1) even (omega (arith, place .inside)) _ _ _ _ (c .before .before .before .mean-of-four .ensures) (g .first-is) (g .second-is) (h .first-is) (h .second-is) in (
       omega (arith, c .before .before .before .before .before .before .before .before .before .before .before .before .before .loop-test .taken),
       (
         begun-at next (luma-turn (v .s) (v .w) (v .luma .now) _ g room (i .1 .0) (c .before .before .before .before .before .before .before .before .before .put-luma .ensures)),

@@ -7,7 +7,7 @@ use lib.ListN.{length}
 use Rattle.plane_laws.specs.Rows.{Begun}
 use Rattle.plane_laws.proofs.Tables.{begun-none, begun-at}
 use Rattle.packed_store.specs.Packed.{packedLumaRow}
-use Rattle.packed_store.proofs.Turns.{Columns, Pixels, least, small, part-short, columns, first-room, second-room, pixels, ended, luma-turn}
+use Rattle.packed_store.proofs.Turns.{TwoColumns, TwoPixels, least, small, part-short, columns, first-room, second-room, pixels, ended, luma-turn}
 use Rattle.packed_rows.proofs.luma_loop.Statement.{statement}
 use Rattle.packed_rows.proofs.luma_loop.Tie as tie
 
@@ -18,10 +18,10 @@ abbrev μ-loop : tie.MeasureT-loop
 μ-loop s w width luma₀ rgba n l x₀ i₀ luma x i = length rgba - i
 
 -- the two columns of this turn, and their pixels
-spot : (c : tie.In-loop Inv-loop μ-loop) → Columns (c .before .before .before .before .before .before .args .width) (c .before .before .before .get-channels-count .result) (c .before .loop .x) (c .before .loop .i)
+spot : (c : tie.In-loop Inv-loop μ-loop) → TwoColumns (c .before .before .before .before .before .before .args .width) (c .before .before .before .get-channels-count .result) (c .before .loop .x) (c .before .loop .i)
 spot c = columns (c .before .before .before .before .before .before .args .s) (c .before .before .before .before .before .before .pre .1 .1) (c .before .before .before .get-channels-count .ensures) (c .before .loop .x) (c .before .loop .i) (c .before .loop .inv .0 .0) (c .before .before .before .before .before .before .pre .1 .0 .0) (omega (arith, c .loop-test .taken))
 
-read : (c : tie.After-pixel-at2 Inv-loop μ-loop) → Pixels (c .before .before .before .before .before .before .before .before .args .s) (c .before .before .before .before .before .before .before .before .args .rgba .now) (c .before .before .before .loop .x) (c .before .pixel-at .result) (c .pixel-at2 .result)
+read : (c : tie.After-pixel-at2 Inv-loop μ-loop) → TwoPixels (c .before .before .before .before .before .before .before .before .args .s) (c .before .before .before .before .before .before .before .before .args .rgba .now) (c .before .before .before .loop .x) (c .before .pixel-at .result) (c .pixel-at2 .result)
 read c = pixels (c .before .before .before .before .before .before .before .before .args .s) (c .before .before .before .before .before .before .before .before .pre .1 .1) (c .before .before .before .before .before .get-channels-count .ensures) (c .before .before .before .loop .x) (c .before .before .before .loop .i) (c .before .before .before .loop .inv .0 .0) (spot (c .before .before)) (c .before .pixel-at .ensures) (c .pixel-at2 .ensures)
 
 get-channels-count-requires : tie.Need-get-channels-count-requires Inv-loop μ-loop
@@ -51,10 +51,10 @@ pixel-at-requires-2 c κs = second-room (c .before .before .before .before .befo
 put-luma-requires : tie.Need-put-luma-requires Inv-loop μ-loop
 put-luma-requires c κs =
     let g = read (c .before) in
-    ((c .before .before .before .before .before .before .before .before .before .pre .0, c .before .before .before .before .before .frame-weights .ensures), ((g .first-low, g .second-low), omega (arith, spot (c .before .before .before) .below, c .before .before .before .before .before .before .before .before .before .pre .1 .0 .1, c .before .before .before .before .loop .inv .1 .long)))
+    ((c .before .before .before .before .before .before .before .before .before .pre .0, c .before .before .before .before .before .frame-weights .ensures), ((g .first-low, g .second-low), omega (arith, spot (c .before .before .before) .inside, c .before .before .before .before .before .before .before .before .before .pre .1 .0 .1, c .before .before .before .before .loop .inv .1 .long)))
 
 add-x : tie.Need-add-x Inv-loop μ-loop
-add-x c = omega (arith, spot (c .before .before .before .before .before .before) .below, c .before .before .before .before .before .before .before .before .before .before .before .before .pre .1 .0 .0)
+add-x c = omega (arith, spot (c .before .before .before .before .before .before) .inside, c .before .before .before .before .before .before .before .before .before .before .before .before .pre .1 .0 .0)
 
 mul-i : tie.Need-mul-i Inv-loop μ-loop
 mul-i c = omega (arith, spot (c .before .before .before .before .before .before) .short)
@@ -70,7 +70,7 @@ loop-again c =
     let v = c .before .before .before .before .before .before .before .before .before .before .before .before .args in
     let i = c .before .before .before .before .before .before .before .loop .inv in (
       (omega (arith, i .0 .0), omega (arith, c .before .before .before .before .before .before .loop-test .taken), omega (arith, i .0 .2)),
-      luma-turn (v .s) (v .w) (v .luma .now) _ (read (c .before .before .before .before)) (omega (arith, spot (c .before .before .before .before .before .before) .below, c .before .before .before .before .before .before .before .before .before .before .before .before .pre .1 .0 .1)) (i .1) (c .before .before .put-luma .ensures),
+      luma-turn (v .s) (v .w) (v .luma .now) _ (read (c .before .before .before .before)) (omega (arith, spot (c .before .before .before .before .before .before) .inside, c .before .before .before .before .before .before .before .before .before .before .before .before .pre .1 .0 .1)) (i .1) (c .before .before .put-luma .ensures),
     )
 
 same-length : tie.Need-same-length Inv-loop μ-loop

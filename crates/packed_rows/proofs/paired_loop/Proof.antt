@@ -14,7 +14,7 @@ use Rattle.plane_laws.proofs.Tables.{begun-none}
 use Rattle.frames.specs.Rows.{rowPixel}
 use Rattle.packed_store.specs.Packed.{packedLumaRow, packedChromaRow}
 use Rattle.packed_store.proofs.Readings.{two-columns}
-use Rattle.packed_store.proofs.Turns.{Columns, Pixels, least, small, part-short, columns, first-room, second-room, pixels, ended, luma-turn, pair-turn, wide-enough, pairs-written}
+use Rattle.packed_store.proofs.Turns.{TwoColumns, TwoPixels, least, small, part-short, columns, first-room, second-room, pixels, ended, luma-turn, pair-turn, wide-enough, pairs-written}
 use Rattle.packed_rows.proofs.paired_loop.Statement.{statement}
 use Rattle.packed_rows.proofs.paired_loop.Tie as tie
 
@@ -25,10 +25,10 @@ abbrev μ-loop : tie.MeasureT-loop
 μ-loop s w width luma₀ chroma₀ rgba n l x₀ i₀ luma chroma x i = length rgba - i
 
 -- the two columns of this turn, and their pixels
-spot : (c : tie.In-loop Inv-loop μ-loop) → Columns (c .before .before .before .before .before .before .before .args .width) (c .before .before .before .get-channels-count .result) (c .before .loop .x) (c .before .loop .i)
+spot : (c : tie.In-loop Inv-loop μ-loop) → TwoColumns (c .before .before .before .before .before .before .before .args .width) (c .before .before .before .get-channels-count .result) (c .before .loop .x) (c .before .loop .i)
 spot c = columns (c .before .before .before .before .before .before .before .args .s) (c .before .before .before .before .before .before .before .pre .1 .1) (c .before .before .before .get-channels-count .ensures) (c .before .loop .x) (c .before .loop .i) (c .before .loop .inv .0 .0) (c .before .before .before .before .before .before .before .pre .1 .0 .narrow) (omega (arith, c .loop-test .taken))
 
-read : (c : tie.After-pixel-at2 Inv-loop μ-loop) → Pixels (c .before .before .before .before .before .before .before .before .before .args .s) (c .before .before .before .before .before .before .before .before .before .args .rgba .now) (c .before .before .before .loop .x) (c .before .pixel-at .result) (c .pixel-at2 .result)
+read : (c : tie.After-pixel-at2 Inv-loop μ-loop) → TwoPixels (c .before .before .before .before .before .before .before .before .before .args .s) (c .before .before .before .before .before .before .before .before .before .args .rgba .now) (c .before .before .before .loop .x) (c .before .pixel-at .result) (c .pixel-at2 .result)
 read c = pixels (c .before .before .before .before .before .before .before .before .before .args .s) (c .before .before .before .before .before .before .before .before .before .pre .1 .1) (c .before .before .before .before .before .get-channels-count .ensures) (c .before .before .before .loop .x) (c .before .before .before .loop .i) (c .before .before .before .loop .inv .0 .0) (spot (c .before .before)) (c .before .pixel-at .ensures) (c .pixel-at2 .ensures)
 
 low-mean : (c : tie.After-mean-of-two Inv-loop μ-loop) → Low (most (c .before .before .before .before .before .before .before .before .before .before .before .before .before .before .before .args .s .depth)) (c .mean-of-two .result)
@@ -39,7 +39,7 @@ low-mean c =
 chroma-room : (c : tie.In-loop Inv-loop μ-loop) → c .before .loop .x + 2 ≤ length (c .before .before .before .before .before .before .before .args .chroma .now)
 chroma-room c =
     let s = c .before .before .before .before .before .before .before in
-    omega (arith, spot c .below, s .pre .1 .0 .chroma-long, wide-enough (s .args .s .subsampling) (s .args .width))
+    omega (arith, spot c .inside, s .pre .1 .0 .chroma-long, wide-enough (s .args .s .subsampling) (s .args .width))
 
 get-channels-count-requires : tie.Need-get-channels-count-requires Inv-loop μ-loop
 get-channels-count-requires c κs = search needs
@@ -68,7 +68,7 @@ pixel-at-requires-2 c κs = second-room (c .before .before .before .before .befo
 put-luma-requires : tie.Need-put-luma-requires Inv-loop μ-loop
 put-luma-requires c κs =
     let g = read (c .before) in
-    ((c .before .before .before .before .before .before .before .before .before .before .pre .0 .0, c .before .before .before .before .before .frame-weights .ensures), ((g .first-low, g .second-low), omega (arith, spot (c .before .before .before) .below, c .before .before .before .before .before .before .before .before .before .before .pre .1 .0 .luma-long, c .before .before .before .before .loop .inv .1 .0 .long)))
+    ((c .before .before .before .before .before .before .before .before .before .before .pre .0 .0, c .before .before .before .before .before .frame-weights .ensures), ((g .first-low, g .second-low), omega (arith, spot (c .before .before .before) .inside, c .before .before .before .before .before .before .before .before .before .before .pre .1 .0 .luma-long, c .before .before .before .before .loop .inv .1 .0 .long)))
 
 mean-of-two-requires : tie.Need-mean-of-two-requires Inv-loop μ-loop
 mean-of-two-requires c κs = search needs
@@ -77,7 +77,7 @@ put-pair-requires : tie.Need-put-pair-requires Inv-loop μ-loop
 put-pair-requires c κs = ((c .before .before .before .before .before .before .before .before .before .before .before .before .before .before .before .pre .0 .0, c .before .before .before .before .before .before .before .before .before .before .frame-weights .ensures), (low-mean c, omega (arith, chroma-room (c .before .before .before .before .before .before .before .before), c .before .before .before .before .before .before .before .before .before .loop .inv .1 .1 .long)))
 
 add-x : tie.Need-add-x Inv-loop μ-loop
-add-x c = omega (arith, spot (c .before .before .before .before .before .before .before .before .before .before .before) .below, c .before .before .before .before .before .before .before .before .before .before .before .before .before .before .before .before .before .before .pre .1 .0 .narrow)
+add-x c = omega (arith, spot (c .before .before .before .before .before .before .before .before .before .before .before) .inside, c .before .before .before .before .before .before .before .before .before .before .before .before .before .before .before .before .before .before .pre .1 .0 .narrow)
 
 mul-i : tie.Need-mul-i Inv-loop μ-loop
 mul-i c = omega (arith, spot (c .before .before .before .before .before .before .before .before .before .before .before) .short)
@@ -96,8 +96,8 @@ loop-again c =
     let t = rowPixel (v .s .channels) (v .rgba .now) in
     let place = spot (c .before .before .before .before .before .before .before .before .before .before .before) in
     let g = read (c .before .before .before .before .before .before .before .before .before) in
-    let room : x + 2 ≤ length (v .luma .now) = omega (arith, place .below, c .before .before .before .before .before .before .before .before .before .before .before .before .before .before .before .before .before .before .pre .1 .0 .luma-long) in
-    let mean = two-columns (v .s) (v .w) (v .width) t t x (c .before .before .before .before .before .before .before .before .before .before .before .before .before .before .before .before .before .before .pre .0 .1) (i .0 .2) (omega (arith, place .below)) _ _ (c .before .before .before .mean-of-two .ensures) (g .first-is) (g .second-is) in (
+    let room : x + 2 ≤ length (v .luma .now) = omega (arith, place .inside, c .before .before .before .before .before .before .before .before .before .before .before .before .before .before .before .before .before .before .pre .1 .0 .luma-long) in
+    let mean = two-columns (v .s) (v .w) (v .width) t t x (c .before .before .before .before .before .before .before .before .before .before .before .before .before .before .before .before .before .before .pre .0 .1) (i .0 .2) (omega (arith, place .inside)) _ _ (c .before .before .before .mean-of-two .ensures) (g .first-is) (g .second-is) in (
       (omega (arith, i .0 .0), omega (arith, c .before .before .before .before .before .before .before .before .before .before .before .loop-test .taken), omega (arith, i .0 .2)),
       (
         luma-turn (v .s) (v .w) (v .luma .now) _ g room (i .1 .0) (c .before .before .before .before .before .before .before .put-luma .ensures),

@@ -12,7 +12,7 @@ use Rattle.plane_laws.proofs.Tables.{begun-none, begun-at}
 use Rattle.frames.specs.Rows.{rowPixel}
 use Rattle.packed_store.specs.Packed.{packedLumaRow, packedChromaRow}
 use Rattle.packed_store.proofs.Readings.{single}
-use Rattle.packed_store.proofs.Turns.{Columns, Pixels, least, small, part-short, columns, first-room, second-room, pixels, ended, luma-turn, pair-turn, singles-written}
+use Rattle.packed_store.proofs.Turns.{TwoColumns, TwoPixels, least, small, part-short, columns, first-room, second-room, pixels, ended, luma-turn, pair-turn, singles-written}
 use Rattle.packed_rows.proofs.single_loop.Statement.{statement}
 use Rattle.packed_rows.proofs.single_loop.Tie as tie
 
@@ -23,16 +23,16 @@ abbrev μ-loop : tie.MeasureT-loop
 μ-loop s w width luma₀ chroma₀ rgba n l x₀ i₀ luma chroma x i = length rgba - i
 
 -- the two columns of this turn, and their pixels
-spot : (c : tie.In-loop Inv-loop μ-loop) → Columns (c .before .before .before .before .before .before .before .args .width) (c .before .before .before .get-channels-count .result) (c .before .loop .x) (c .before .loop .i)
+spot : (c : tie.In-loop Inv-loop μ-loop) → TwoColumns (c .before .before .before .before .before .before .before .args .width) (c .before .before .before .get-channels-count .result) (c .before .loop .x) (c .before .loop .i)
 spot c = columns (c .before .before .before .before .before .before .before .args .s) (c .before .before .before .before .before .before .before .pre .1 .1) (c .before .before .before .get-channels-count .ensures) (c .before .loop .x) (c .before .loop .i) (c .before .loop .inv .0 .0) (c .before .before .before .before .before .before .before .pre .1 .0 .narrow) (omega (arith, c .loop-test .taken))
 
-read : (c : tie.After-pixel-at2 Inv-loop μ-loop) → Pixels (c .before .before .before .before .before .before .before .before .before .args .s) (c .before .before .before .before .before .before .before .before .before .args .rgba .now) (c .before .before .before .loop .x) (c .before .pixel-at .result) (c .pixel-at2 .result)
+read : (c : tie.After-pixel-at2 Inv-loop μ-loop) → TwoPixels (c .before .before .before .before .before .before .before .before .before .args .s) (c .before .before .before .before .before .before .before .before .before .args .rgba .now) (c .before .before .before .loop .x) (c .before .pixel-at .result) (c .pixel-at2 .result)
 read c = pixels (c .before .before .before .before .before .before .before .before .before .args .s) (c .before .before .before .before .before .before .before .before .before .pre .1 .1) (c .before .before .before .before .before .get-channels-count .ensures) (c .before .before .before .loop .x) (c .before .before .before .loop .i) (c .before .before .before .loop .inv .0 .0) (spot (c .before .before)) (c .before .pixel-at .ensures) (c .pixel-at2 .ensures)
 
 chroma-room : (c : tie.In-loop Inv-loop μ-loop) → 2 * c .before .loop .x + 4 ≤ length (c .before .before .before .before .before .before .before .args .chroma .now)
 chroma-room c =
     let s = c .before .before .before .before .before .before .before in
-    omega (arith, spot c .below, s .pre .1 .0 .chroma-long, ap (λ (o : YuvChromaSubsampling). chromaWidth o (s .args .width)) (s .pre .0 .1))
+    omega (arith, spot c .inside, s .pre .1 .0 .chroma-long, ap (λ (o : YuvChromaSubsampling). chromaWidth o (s .args .width)) (s .pre .0 .1))
 
 get-channels-count-requires : tie.Need-get-channels-count-requires Inv-loop μ-loop
 get-channels-count-requires c κs = search needs
@@ -61,25 +61,25 @@ pixel-at-requires-2 c κs = second-room (c .before .before .before .before .befo
 put-luma-requires : tie.Need-put-luma-requires Inv-loop μ-loop
 put-luma-requires c κs =
     let g = read (c .before) in
-    ((c .before .before .before .before .before .before .before .before .before .before .pre .0 .0, c .before .before .before .before .before .frame-weights .ensures), ((g .first-low, g .second-low), omega (arith, spot (c .before .before .before) .below, c .before .before .before .before .before .before .before .before .before .before .pre .1 .0 .luma-long, c .before .before .before .before .loop .inv .1 .0 .long)))
+    ((c .before .before .before .before .before .before .before .before .before .before .pre .0 .0, c .before .before .before .before .before .frame-weights .ensures), ((g .first-low, g .second-low), omega (arith, spot (c .before .before .before) .inside, c .before .before .before .before .before .before .before .before .before .before .pre .1 .0 .luma-long, c .before .before .before .before .loop .inv .1 .0 .long)))
 
 mul-put-pair : tie.Need-mul-put-pair Inv-loop μ-loop
-mul-put-pair c = omega (arith, spot (c .before .before .before .before .before .before .before) .below, c .before .before .before .before .before .before .before .before .before .before .before .before .before .before .pre .1 .0 .narrow)
+mul-put-pair c = omega (arith, spot (c .before .before .before .before .before .before .before) .inside, c .before .before .before .before .before .before .before .before .before .before .before .before .before .before .pre .1 .0 .narrow)
 
 put-pair-requires : tie.Need-put-pair-requires Inv-loop μ-loop
 put-pair-requires c κs = ((c .before .before .before .before .before .before .before .before .before .before .before .before .before .before .pre .0 .0, c .before .before .before .before .before .before .before .before .before .frame-weights .ensures), (read (c .before .before .before .before .before) .first-low, omega (arith, chroma-room (c .before .before .before .before .before .before .before), c .before .before .before .before .before .before .before .before .loop .inv .1 .1 .long)))
 
 mul-put-pair-2 : tie.Need-mul-put-pair-2 Inv-loop μ-loop
-mul-put-pair-2 c = omega (arith, spot (c .before .before .before .before .before .before .before .before .before .before .before) .below, c .before .before .before .before .before .before .before .before .before .before .before .before .before .before .before .before .before .before .pre .1 .0 .narrow)
+mul-put-pair-2 c = omega (arith, spot (c .before .before .before .before .before .before .before .before .before .before .before) .inside, c .before .before .before .before .before .before .before .before .before .before .before .before .before .before .before .before .before .before .pre .1 .0 .narrow)
 
 add-put-pair : tie.Need-add-put-pair Inv-loop μ-loop
-add-put-pair c = omega (arith, spot (c .before .before .before .before .before .before .before .before .before .before .before) .below, c .before .before .before .before .before .before .before .before .before .before .before .before .before .before .before .before .before .before .pre .1 .0 .narrow)
+add-put-pair c = omega (arith, spot (c .before .before .before .before .before .before .before .before .before .before .before) .inside, c .before .before .before .before .before .before .before .before .before .before .before .before .before .before .before .before .before .before .pre .1 .0 .narrow)
 
 put-pair-requires-2 : tie.Need-put-pair-requires-2 Inv-loop μ-loop
 put-pair-requires-2 c κs = ((c .before .before .before .before .before .before .before .before .before .before .before .before .before .before .before .before .before .before .pre .0 .0, c .before .before .before .before .before .before .before .before .before .before .before .before .before .frame-weights .ensures), (read (c .before .before .before .before .before .before .before .before .before) .second-low, omega (arith, chroma-room (c .before .before .before .before .before .before .before .before .before .before .before), simp length-set at (ap length (c .before .before .before .put-pair .ensures)), c .before .before .before .before .before .before .before .before .before .before .before .before .loop .inv .1 .1 .long)))
 
 add-x : tie.Need-add-x Inv-loop μ-loop
-add-x c = omega (arith, spot (c .before .before .before .before .before .before .before .before .before .before .before .before .before .before) .below, c .before .before .before .before .before .before .before .before .before .before .before .before .before .before .before .before .before .before .before .before .before .pre .1 .0 .narrow)
+add-x c = omega (arith, spot (c .before .before .before .before .before .before .before .before .before .before .before .before .before .before) .inside, c .before .before .before .before .before .before .before .before .before .before .before .before .before .before .before .before .before .before .before .before .before .pre .1 .0 .narrow)
 
 mul-i : tie.Need-mul-i Inv-loop μ-loop
 mul-i c = omega (arith, spot (c .before .before .before .before .before .before .before .before .before .before .before .before .before .before) .short)
@@ -98,7 +98,7 @@ loop-again c =
     let t = rowPixel (v .s .channels) (v .rgba .now) in
     let place = spot (c .before .before .before .before .before .before .before .before .before .before .before .before .before .before) in
     let g = read (c .before .before .before .before .before .before .before .before .before .before .before .before) in
-    let room : x + 2 ≤ length (v .luma .now) = omega (arith, place .below, c .before .before .before .before .before .before .before .before .before .before .before .before .before .before .before .before .before .before .before .before .before .pre .1 .0 .luma-long) in
+    let room : x + 2 ≤ length (v .luma .now) = omega (arith, place .inside, c .before .before .before .before .before .before .before .before .before .before .before .before .before .before .before .before .before .before .before .before .before .pre .1 .0 .luma-long) in
     let j = pair-turn (v .s) (v .w) _ (v .width) false t t (2 * x) x (v .chroma .now) _ (omega arith) (omega arith) (omega (arith, chroma-room (c .before .before .before .before .before .before .before .before .before .before .before .before .before .before))) (g .first-is ∙ single (v .s) (v .width) t x (c .before .before .before .before .before .before .before .before .before .before .before .before .before .before .before .before .before .before .before .before .before .pre .0 .1)) (i .1 .1) (c .before .before .before .before .before .before .put-pair .ensures) in
     let k = pair-turn (v .s) (v .w) _ (v .width) false t t (2 * x + 2) (x + 1) (v .chroma .now) _ (omega arith) (omega arith) (omega (arith, chroma-room (c .before .before .before .before .before .before .before .before .before .before .before .before .before .before))) (g .second-is ∙ single (v .s) (v .width) t (x + 1) (c .before .before .before .before .before .before .before .before .before .before .before .before .before .before .before .before .before .before .before .before .before .pre .0 .1)) j (c .before .before .put-pair2 .ensures) in (
       (omega (arith, i .0 .0), omega (arith, c .before .before .before .before .before .before .before .before .before .before .before .before .before .before .loop-test .taken), omega (arith, i .0 .2)),

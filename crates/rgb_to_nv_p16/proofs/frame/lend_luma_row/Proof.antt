@@ -5,7 +5,7 @@ use Prim.Native.Nat.{_+_, _*_, _≤_}
 use native.Mathlib.Nat.{add-sub-cancel-left}
 use native.Mathlib.Omega.{arith}
 use lib.ListN.{length}
-use Rattle.frames.proofs.Places.{part-of}
+use Rattle.frames.proofs.Places.{convertible}
 use Rattle.rgb_to_nv_p16.proofs.Turns.{luma-one}
 use Rattle.rgb_to_nv_p16.proofs.frame.lend_luma_row.Statement.{statement}
 use Rattle.rgb_to_nv_p16.proofs.frame.lend_luma_row.Tie as tie
@@ -45,7 +45,7 @@ process-luma-row-requires : tie.Need-process-luma-row-requires
 process-luma-row-requires c κs =
     let v = c .before .before .before .before .before .args in
     let ready = c .before .before .before .before .before .pre .1 .0 in
-    (c .before .before .before .before .before .pre .0, ((ready .sized .narrow, c .process-luma-row-arg .given .2 ∙ add-sub-cancel-left (v .row * v .f .«luma_stride») (v .f .width)), part-of ready (c .before .before .before .before .before .pre .1 .1) (c .before .before .source-row .ensures)))
+    (c .before .before .before .before .before .pre .0, ((ready .sized .narrow, c .process-luma-row-arg .given .2 ∙ add-sub-cancel-left (v .row * v .f .«luma_stride») (v .f .width)), convertible ready (c .before .before .before .before .before .pre .1 .1) (c .before .before .source-row .ensures)))
 
 same-length : tie.Need-same-length
 same-length c = search needs

@@ -6,7 +6,7 @@ use native.Mathlib.Nat.{add-sub-cancel-left}
 use native.Mathlib.Omega.{arith}
 use lib.ListN.{length}
 use Rattle.blocks.proofs.Tiles.{second-below}
-use Rattle.frames.proofs.Places.{part-of}
+use Rattle.frames.proofs.Places.{convertible}
 use Rattle.rgb_to_nv_p16.proofs.Turns.{top-in, next-in, two-paired, chroma-in, second-shown, luma-one, chroma-one}
 use Rattle.rgb_to_nv_p16.proofs.frame.lend_row.Statement.{statement}
 use Rattle.rgb_to_nv_p16.proofs.frame.lend_row.Tie as tie
@@ -100,7 +100,7 @@ process-row-requires c κs =
           luma-long = c .before .process-row-arg .given .2 ∙ add-sub-cancel-left (v .top * v .f .«luma_stride») (v .f .width);
           chroma-long = c .process-row-arg2 .given .2 ∙ add-sub-cancel-left (v .row * v .f .«chroma_stride») (c .before .before .chroma-width .result) ∙ c .before .before .chroma-width .ensures;
         },
-        (part-of ready (top-in turn) (c .before .before .before .before .before .before .before .source-row .ensures), part-of ready (second-in (c .before .before .before .before .before .before)) (c .before .before .before .before .before .source-row2 .ensures)),
+        (convertible ready (top-in turn) (c .before .before .before .before .before .before .before .source-row .ensures), convertible ready (second-in (c .before .before .before .before .before .before)) (c .before .before .before .before .before .source-row2 .ensures)),
       ),
     )
 
