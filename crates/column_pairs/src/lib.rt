@@ -14,7 +14,7 @@ ghost use Rattle.column_pairs.specs.Columns.{ColumnsWritten, ColumnsExch
 use byte_exchange::exchange;
 use last_column::elements_over;
 use packed_blocks::block_loop;
-use packed_rows::luma_loop;
+use packed_blocks::luma_loop;
 use packed_rows::paired_loop;
 use packed_rows::single_loop;
 use rules::Settings;

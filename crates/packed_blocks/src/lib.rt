@@ -1,12 +1,15 @@
-// Two source rows at 4:2:0: a chroma row and the upper luma row, two columns in each turn, before the bytes are exchanged.
-// The loop ends by a count of pairs: with this test the compiler makes the shortest loop.
+// Two source rows at 4:2:0: the chroma row with the upper luma row, and the lower luma row by itself; two columns in each turn, before
+// the bytes are exchanged. The first loop ends by a count of pairs, the second by the row's length: so the compiler makes them shortest.
 ghost use mathlib.Core.Path.{_≡_};
 ghost use mathlib.Core.Bool.{true};
+ghost use Prim.Native.Nat.{_≤_};
 ghost use lib.ListN.{length};
 ghost use Rattle.rule_laws.specs.Usable.{Usable};
 ghost use Rattle.blocks.specs.Tiles.{paired};
+ghost use Rattle.plane_laws.specs.Rows.{Begun};
 ghost use Rattle.frames.specs.Rows.{Convertible};
-ghost use Rattle.last_column.specs.Columns.{RowLengths};
+ghost use Rattle.last_column.specs.Columns.{evenColumns, RowLengths};
+ghost use Rattle.packed_store.specs.Packed.{packedLumaRow};
 ghost use Rattle.packed_store.specs.Pairs.{PackedWritten};
 use blocks::mean;
 use frames::pixels;
@@ -18,7 +21,7 @@ use rules::Weights;
 use rules::YuvSourceChannels;
 use yuv_support::channels::get_channels_count;
 
-// All columns but an odd last one; the lower luma row is written by a loop of its own.
+// The chroma row and the upper luma row.
 pub fn block_loop(
     s: Settings,
     w: Weights,
@@ -48,5 +51,26 @@ pub fn block_loop(
         let v = pixels::pixel_at(YuvSourceChannels::Rgb, lower, i + n);
         put_pair(s, w, joined, chroma, x, mean::mean_of_four(p, q, u, v));
         pair += 1;
+    }
+}
+
+// The lower luma row.
+pub fn luma_loop(s: Settings, w: Weights, width: usize, luma: &mut [u16], rgba: &[u16])
+    requires { ⌜ Usable s w ⌝ }
+    requires { ⌜ (width ≤ 16384) × (length (now luma) ≡ width) ⌝ }
+    requires { ⌜ Convertible s width (now rgba) ⌝ }
+    ensures { λ _. ⌜ Begun (evenColumns width) (packedLumaRow s w (now (rgba .entry))) (now (luma .entry)) (now (luma .exit)) ⌝ }
+{
+    let channels = s.channels;
+    let n = get_channels_count(channels);
+    let joined = frame_weights(s, w);
+    let mut x = 0;
+    let mut i = 0;
+    while i + 2 * n <= rgba.len() {
+        let p = pixels::pixel_at(YuvSourceChannels::Rgb, rgba, i);
+        let q = pixels::pixel_at(YuvSourceChannels::Rgb, rgba, i + n);
+        put_luma(s, w, joined, luma, x, p, q);
+        x += 2;
+        i += 2 * n;
     }
 }

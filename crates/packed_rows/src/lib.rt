@@ -1,16 +1,13 @@
-// One source row: a luma row, alone or with a chroma row, two columns in each turn, before the bytes are exchanged.
+// One source row: a luma row and a chroma row, two columns in each turn, before the bytes are exchanged.
 // The loops end by the row's length: with this test the compiler makes the shortest loops.
 ghost use mathlib.Core.Path.{_≡_};
 ghost use mathlib.Core.Bool.{true, false};
-ghost use Prim.Native.Nat.{_≤_};
 ghost use lib.ListN.{length};
 ghost use Rattle.rules.specs.declared.YuvChromaSubsampling.the-variants.{Yuv444};
 ghost use Rattle.rule_laws.specs.Usable.{Usable};
 ghost use Rattle.blocks.specs.Tiles.{paired};
-ghost use Rattle.plane_laws.specs.Rows.{Begun};
 ghost use Rattle.frames.specs.Rows.{Convertible};
-ghost use Rattle.last_column.specs.Columns.{evenColumns, RowLengths};
-ghost use Rattle.packed_store.specs.Packed.{packedLumaRow};
+ghost use Rattle.last_column.specs.Columns.{RowLengths};
 ghost use Rattle.packed_store.specs.Pairs.{PackedWritten};
 use blocks::mean;
 use frames::pixels;
@@ -21,27 +18,6 @@ use rules::Settings;
 use rules::Weights;
 use rules::YuvSourceChannels;
 use yuv_support::channels::get_channels_count;
-
-// A luma row alone.
-pub fn luma_loop(s: Settings, w: Weights, width: usize, luma: &mut [u16], rgba: &[u16])
-    requires { ⌜ Usable s w ⌝ }
-    requires { ⌜ (width ≤ 16384) × (length (now luma) ≡ width) ⌝ }
-    requires { ⌜ Convertible s width (now rgba) ⌝ }
-    ensures { λ _. ⌜ Begun (evenColumns width) (packedLumaRow s w (now (rgba .entry))) (now (luma .entry)) (now (luma .exit)) ⌝ }
-{
-    let channels = s.channels;
-    let n = get_channels_count(channels);
-    let joined = frame_weights(s, w);
-    let mut x = 0;
-    let mut i = 0;
-    while i + 2 * n <= rgba.len() {
-        let p = pixels::pixel_at(YuvSourceChannels::Rgb, rgba, i);
-        let q = pixels::pixel_at(YuvSourceChannels::Rgb, rgba, i + n);
-        put_luma(s, w, joined, luma, x, p, q);
-        x += 2;
-        i += 2 * n;
-    }
-}
 
 // 4:4:4: a chroma pair for each pixel.
 pub fn single_loop(

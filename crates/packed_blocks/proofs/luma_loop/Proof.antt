@@ -1,4 +1,4 @@
--- `packed_rows::luma_loop` meets its contract. Assumes nothing.
+-- `packed_blocks::luma_loop` meets its contract. Assumes nothing.
 use borrow.Author.Needs.{needs}
 use mathlib.Core.Path.{_≡_, refl}
 use Prim.Native.Nat.{_+_, _-_, _*_, _%_, _≤_}
@@ -8,8 +8,8 @@ use Rattle.plane_laws.specs.Rows.{Begun}
 use Rattle.plane_laws.proofs.Tables.{begun-none, begun-at}
 use Rattle.packed_store.specs.Packed.{packedLumaRow}
 use Rattle.packed_store.proofs.Turns.{TwoColumns, TwoPixels, least, small, part-short, columns, first-room, second-room, pixels, ended, luma-turn}
-use Rattle.packed_rows.proofs.luma_loop.Statement.{statement}
-use Rattle.packed_rows.proofs.luma_loop.Tie as tie
+use Rattle.packed_blocks.proofs.luma_loop.Statement.{statement}
+use Rattle.packed_blocks.proofs.luma_loop.Tie as tie
 
 abbrev Inv-loop : tie.InvT-loop
 Inv-loop s w width luma₀ rgba n l x₀ i₀ luma x i = ((i ≡ x * n) × (i ≤ length rgba) × (x % 2 ≡ 0)) × Begun x (packedLumaRow s w rgba) luma₀ luma
