@@ -29,7 +29,7 @@ use Rattle.joined_codes.specs.Packed.{coloursOf}
 joined : {y z : ℤ} {p n q m : ℕ} → Is y p n → Is z q m → Is (join y z) (p + q * 4294967296) (n + m * 4294967296)
 joined h k = is-add h (is-times k 4294967296)
 
--- a weighted sum as a difference
+-- a weighted sum is the difference of what positive weights add and what negative ones take
 sum-is : (w : Triple) (p : Pixel)
     → Is (weighted w p) (pp (w .red) * p .red + pp (w .green) * p .green + pp (w .blue) * p .blue) (np (w .red) * p .red + np (w .green) * p .green + np (w .blue) * p .blue)
 unfolding weighted
@@ -77,7 +77,7 @@ sum-in-source-order Bgr w p = sum-blue-first w p
 
 -- ---- the codes in a sum
 
--- a sum that is not negative, and its quotient
+-- a sum whose quotient lies from 0 to m is not negative: it is `number`
 record Counted (z : ℤ) (divisor m : ℕ) : Type 0 where
   number : ℕ
   is : z ≡ pos number
@@ -164,7 +164,7 @@ module _ (s : Settings) (reach : Reach s) (bias : ℕ) where
       let y = one-sum w q hq in
       record { low = x .number; high = y .number; sum = sum-shared _ (scaledWeights s w) p q ∙ (λ i. join (x .is i) (y .is i)); room = x .room; first = x .holds; second = y .holds }
 
--- ---- sizes
+-- ---- no sum leaves 64 bits
 
 pub join-small : (a b : ℤ) (m n : ℕ) → natAbs a ≤ m → natAbs b ≤ n → natAbs (join a b) ≤ m + n * 4294967296
 join-small a b m n ha hb = omega (arith, abs-plus a (b *ℤ pos 4294967296), abs-mul b 4294967296)

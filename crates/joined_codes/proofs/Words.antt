@@ -36,6 +36,7 @@ use Rattle.joined_codes.proofs.Sums.{HoldsCodes, joined-holds, shared-h
 
 -- ---- a sum without the bits below its words
 
+-- there are so many bits below a word
 abbrev exponent : YuvBytesPacking → ℕ → ℕ
 exponent MostSignificantBytes d = 13 + (16 - d)
 exponent LeastSignificantBytes d = 13
@@ -52,6 +53,7 @@ module _ (k low high v : ℕ) (made : v ≡ low + high * 4294967296) (room : low
   abbrev whole : ℕ
   whole = 2 ^ k
 
+  -- the bits that are cleared in either half
   removed : bitAnd v ((whole - 1) * 4294967297) ≡ high % whole * 4294967296 + low % whole
   removed =
       let some = pow-pos k in
@@ -59,9 +61,11 @@ module _ (k low high v : ℕ) (made : v ≡ low + high * 4294967296) (room : low
       let f : (whole - 1) * 4294967297 ≡ (whole - 1) * 4294967296 + (whole - 1) = omega arith in
       (λ i. bitAnd (e i) (f i)) ∙ and-block 32 high (whole - 1) low (whole - 1) room (omega (arith, small, some)) ∙ (λ i. and-mask high k i * 4294967296 + and-mask low k i)
 
+  -- what is left of either half
   kept : cleared v ((whole - 1) * 4294967297) ≡ low / whole * whole + high / whole * whole * 4294967296
   kept = omega (arith, made, removed, div-add-mod' low whole, div-add-mod' high whole)
 
+  -- by the packing factor t
   module _ (t : ℕ) (e : 8192 * t ≡ whole) where
     times : (n : ℕ) → n * whole ≡ n * t * 8192
     times n = let q : n * (8192 * t) ≡ n * whole = ap (λ (m : ℕ). n * m) e in omega (arith, q)
@@ -78,7 +82,7 @@ module _ (k low high v : ℕ) (made : v ≡ low + high * 4294967296) (room : low
         (let q = kept in
         let x : low / whole * whole ≤ low = omega (arith, div-add-mod' low whole) in omega (arith, q, x, room, times (high / whole)))
 
--- ---- the words of a sum
+-- ---- the two words of a sum are the packed codes that it holds
 module _ (s : Settings) (deep : s .depth ≤ 16) {total : ℤ} {a b : ℕ} (h : HoldsCodes total (8192 * packingFactor (s .packing) (s .depth)) a b) where
   abbrev t : ℕ
   t = packingFactor (s .packing) (s .depth)
@@ -113,7 +117,7 @@ module _ (s : Settings) (deep : s .depth ≤ 16) {total : ℤ} {a b : ℕ} (h : 
         let y : b ≤ most (s .depth) = omega arith in
         (omega (arith, first-word, packed-fits (s .packing) (s .depth) deep x), omega (arith, second-word, packed-fits (s .packing) (s .depth) deep y))
 
--- ---- luma and chroma
+-- ---- the weights of a frame: what they are, that their sums fit, and which codes these hold
 module _ (s : Settings) (w : Weights) (u : Usable s w) (j : FrameWeights) (e : j ≡ frameWeights s w) where
   abbrev lumaBias : ℕ
   lumaBias = biasY (s .range) (s .depth)

@@ -23,7 +23,7 @@ firstWord kept = kept % 4294967296 / 8192
 abbrev pub secondWord : ℕ → ℕ
 secondWord kept = kept / 4294967296 / 8192
 
--- neither the sum nor a step on the way to it leaves 64 bits, by the sizes of its start and its products
+-- the start is below 2^61 and no product is above 2^13 × 65,535 × (2^32 + 1), so that no step on the way to the sum leaves 64 bits
 pub record SumFits (j : JoinedWeights) (a b c : ℕ) : Type 0 where
   pub start : natAbs (j .start) ≤ 2305843009213693951
   pub first : natAbs (j .first) * a ≤ 2305807825378467840

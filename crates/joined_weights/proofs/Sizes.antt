@@ -1,4 +1,4 @@
--- The sizes of scaled weights and starts. Assumes nothing.
+-- Scaled weights and starts are small: they fit 32 bits, and joined they fit 64. Assumes nothing.
 use mathlib.Core.Path.{_≡_, sym, ap, _∙_}
 use mathlib.Core.Bool.{Bool, true, false}
 use Prim.Native.Nat.{ℕ, _+_, _-_, _*_, _^_, _≤_}
@@ -24,7 +24,7 @@ use Rattle.joined_weights.specs.JoinedWeights.{scaleOf, inSourceOrder, s
 
 -- ---- the scale
 
--- a code's 2^P, scaled, is 2^13 times the packing factor
+-- 2^P times the scale is 2^13 times the packing factor
 pub scale-times : (s : Settings) → s .precision ≤ 13 → 2 ^ s .precision * scaleOf s ≡ 8192 * packingFactor (s .packing) (s .depth)
 scale-times s h =
     let t = packingFactor (s .packing) (s .depth) in

@@ -25,7 +25,7 @@ scaleOf s = 2 ^ (13 - s .precision) * packingFactor (s .packing) (s .depth)
 abbrev pub scaledTriple : ℕ → Triple → Triple
 scaledTriple scale w = record { red = w .red *ℤ pos scale; green = w .green *ℤ pos scale; blue = w .blue *ℤ pos scale }
 
--- three weights that fit 32 bits with room to spare once they are scaled
+-- the scale is at most 2^18, and each of three weights times the scale at most 2^19
 abbrev pub Scalable : ℕ → Triple → Type 0
 Scalable scale w = (scale ≤ 262144) × (natAbs (w .red) * scale ≤ 524288) × (natAbs (w .green) * scale ≤ 524288) × (natAbs (w .blue) * scale ≤ 524288)
 
