@@ -4,11 +4,12 @@ ghost use Prim.Native.Nat.{_+_, _≤_};
 ghost use lib.ListN.{length};
 ghost use Rattle.rules.specs.declared.Matrix.the-variants.{Tabled};
 ghost use Rattle.rules.specs.Matrices.{matrixOf};
-ghost use Rattle.rules.specs.Answers.{answer, checkedAnswer};
-ghost use Rattle.rules.specs.Frames.{shown, frameLine};
-ghost use Rattle.rules.specs.Check.{matrixLine, judged, judgement, check};
+ghost use Rattle.rules.specs.Answers.{checkedAnswer};
+ghost use Rattle.rules.specs.Frames.{shown};
+ghost use Rattle.rules.specs.Check.{judged, check};
 ghost use Rattle.rule_laws.specs.Usable.{Reach};
 ghost use Rattle.frames.specs.Tests.{Ready};
+ghost use Rattle.frame_check.specs.Stages.{fromMatrix, fromFrame};
 use rules::Checked;
 use rules::Frame;
 use rules::Matrix;
@@ -69,7 +70,7 @@ fn check_named(
 ) -> Checked
     requires { ⌜ Reach s ⌝ }
     requires { ⌜ matrixOf (s .matrix) ≡ Tabled k ⌝ }
-    ensures { λ r. ⌜ checkedAnswer r ≡ answer (frameLine s f (now (source .entry)) (now (luma .entry)) (now (chroma .entry))) (judgement s f (now (source .entry)) (now (luma .entry)) (now (chroma .entry))) ⌝ }
+    ensures { λ r. ⌜ checkedAnswer r ≡ fromFrame s f (now (source .entry)) (now (luma .entry)) (now (chroma .entry)) ⌝ }
 {
     let verdict = frame_refusals::frame_verdict(s, f, source, luma.len(), chroma.len());
     match verdict {
@@ -89,7 +90,7 @@ fn check_matrix(
 ) -> Checked
     requires { ⌜ Reach s ⌝ }
     requires { ⌜ matrix ≡ matrixOf (s .matrix) ⌝ }
-    ensures { λ r. ⌜ checkedAnswer r ≡ answer (matrixLine s f (now (source .entry)) (now (luma .entry)) (now (chroma .entry))) (judgement s f (now (source .entry)) (now (luma .entry)) (now (chroma .entry))) ⌝ }
+    ensures { λ r. ⌜ checkedAnswer r ≡ fromMatrix s f (now (source .entry)) (now (luma .entry)) (now (chroma .entry)) ⌝ }
 {
     match matrix {
         Matrix::Own(_) => Checked::Refused(Refusal::CustomUnchecked),

@@ -1,7 +1,7 @@
 -- The test of a pair of chroma samples by gauges. Definitions and statements only.
 use Prim.Native.Nat.{ℕ, _+_, _*_, _/_}
 use mathlib.Core.Bool.{Bool, _&&_}
-use mathlib.Core.List.{List}
+use mathlib.Core.List.{List, [], _∷_}
 use lib.ListN.{getD}
 use Rattle.rules.specs.declared.YuvChromaSubsampling.{YuvChromaSubsampling}
 use Rattle.rules.specs.declared.YuvChromaSubsampling.the-variants.{Yuv420, Yuv422, Yuv444}
@@ -9,7 +9,7 @@ use Rattle.rules.specs.Channels.{uAt, vAt}
 use Rattle.rules.specs.Storage.{exchanged}
 use Rattle.rules.specs.declared.Pixel.{Pixel}
 use Rattle.rules.specs.declared.YuvSourceChannels.{YuvSourceChannels}
-use Rattle.blocks.specs.Tiles.{tiles}
+use Rattle.blocks.specs.Tiles.{paired, leftOf, tiles}
 use Rattle.frames.specs.Rows.{rowPixel}
 use Rattle.fractions.specs.declared.Sums.{Sums}
 use Rattle.gauged_rows.specs.declared.chroma.Ruler.{Ruler}
@@ -41,3 +41,11 @@ pub record RulerBounded (m : Ruler) : Type 0 where
 -- the pixels of a block from a column on, from two source rows, by whether it has two columns and two rows
 abbrev pub rowTiles : YuvSourceChannels → List ℕ → List ℕ → Bool → Bool → ℕ → List Pixel
 rowTiles c top low wide two left = tiles wide two (rowPixel c top) (rowPixel c low) left
+
+-- two pixels of a row from a column on
+abbrev pub twoPixels : YuvSourceChannels → List ℕ → ℕ → List Pixel
+twoPixels c pixels left = rowPixel c pixels left ∷ rowPixel c pixels (left + 1) ∷ []
+
+-- the pixels of a whole pair's block, by whether the blocks have two rows
+abbrev pub pairPixels : YuvChromaSubsampling → YuvSourceChannels → List ℕ → List ℕ → Bool → ℕ → List Pixel
+pairPixels s c top low two pair = rowTiles c top low (paired s) two (leftOf s pair)

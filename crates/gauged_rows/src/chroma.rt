@@ -7,10 +7,9 @@ ghost use Prim.Native.Nat.{_+_, _*_, _/_, _<_, _≤_};
 ghost use lib.ListN.{length};
 ghost use Rattle.rules.specs.Channels.{count};
 ghost use Rattle.rules.specs.Blocks.{chromaWidth};
-ghost use Rattle.blocks.specs.Tiles.{paired, leftOf, tiles};
-ghost use Rattle.fractions.specs.Sums.{sumsOf, UpToFour};
+ghost use Rattle.fractions.specs.Sums.{UpToFour};
 ghost use Rattle.frames.specs.Rows.{rowPixel};
-ghost use Rattle.gauged_rows.specs.Pairing.{wholePairs, pairNear, RulerBounded, rowTiles};
+ghost use Rattle.gauged_rows.specs.Pairing.{wholePairs, pairNear, RulerBounded, rowTiles, twoPixels, pairPixels};
 ghost use Rattle.gauged_rows.specs.Runs.{PairsPassed};
 use fractions::Sums;
 use fractions::block;
@@ -76,7 +75,7 @@ fn ones(ruler: Ruler, width: usize, top: &[u16], chroma: &[u16]) -> usize
 fn twos(ruler: Ruler, width: usize, top: &[u16], chroma: &[u16]) -> usize
     requires { ⌜ RulerBounded ruler ⌝ }
     requires { ⌜ (width ≤ 16384) × (2 * (width / 2) ≤ length (now chroma)) × (width * count (ruler .channels) ≤ length (now top)) ⌝ }
-    ensures { λ r. ⌜ PairsPassed ruler (λ pair. rowPixel (ruler .channels) (now (top .entry)) (2 * pair) ∷ rowPixel (ruler .channels) (now (top .entry)) (2 * pair + 1) ∷ []) (now (chroma .entry)) (width / 2) r ⌝ }
+    ensures { λ r. ⌜ PairsPassed ruler (λ pair. twoPixels (ruler .channels) (now (top .entry)) (2 * pair)) (now (chroma .entry)) (width / 2) r ⌝ }
 {
     let channels = ruler.channels;
     let pairs = width / 2;
@@ -168,7 +167,7 @@ pub fn chroma_run(
     requires { ⌜ RulerBounded ruler ⌝ }
     requires { ⌜ (width ≤ 16384) × (chromaWidth subsampling width ≤ length (now chroma)) ⌝ }
     requires { ⌜ (width * count (ruler .channels) ≤ length (now top)) × (width * count (ruler .channels) ≤ length (now low)) ⌝ }
-    ensures { λ r. ⌜ PairsPassed ruler (λ pair. rowTiles (ruler .channels) (now (top .entry)) (now (low .entry)) (paired subsampling) two (leftOf subsampling pair)) (now (chroma .entry)) (wholePairs subsampling width) r ⌝ }
+    ensures { λ r. ⌜ PairsPassed ruler (pairPixels subsampling (ruler .channels) (now (top .entry)) (now (low .entry)) two) (now (chroma .entry)) (wholePairs subsampling width) r ⌝ }
 {
     match subsampling {
         YuvChromaSubsampling::Yuv420 => paired_run(ruler, width, two, top, low, chroma),

@@ -66,10 +66,6 @@ customLine s = line 6 (isCustom (matrixOf (s .matrix)))
 abbrev pub checkLines : Settings → Frame → List ℕ → List ℕ → List ℕ → List Line
 checkLines s f source luma chroma = settleLines s ++ (customLine s ∷ frameLines s f source (length luma) (length chroma))
 
--- what the lines from 6 on come to
-abbrev pub matrixLine : Settings → Frame → List ℕ → List ℕ → List ℕ → Line
-matrixLine s f source luma chroma = first (customLine s ∷ frameLines s f source (length luma) (length chroma))
-
 -- a wrong sample of a plane is named; where there is none, what comes after decides
 abbrev pub named : ℕ → Search → Answer → Answer
 named plane Nothing after = after
