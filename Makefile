@@ -37,7 +37,7 @@ examples: build/demo build/whole_frame
 outputs:
 	python3 compare/settings.py crates/run_settings/stdout
 	python3 compare/frames.py crates/run_frames/stdout
-	python3 compare/checks.py crates/run_checks/stdout
+	python3 compare/checks.py crates/run_checks/stdout crates/run_edges/stdout
 	python3 compare/exports.py crates/run_exports/stdout
 
 test: examples outputs build/libayresokum.so

@@ -1,4 +1,2 @@
-pub mod Over
-pub mod Turns
-pub mod Verdicts
 pub mod Outcomes
+pub mod Verdicts

@@ -1,14 +1,13 @@
 // A frame of RGB samples converted to a luma plane and a chroma plane, or refused with both planes as they were.
 ghost use mathlib.Core.Path.{_≡_};
 ghost use mathlib.Core.List.{[]};
+ghost use lib.ListN.{length};
 ghost use Rattle.rules.specs.Refusals.{lineOf};
 ghost use Rattle.rules.specs.Answers.{given, answer, convertedAnswer};
 ghost use Rattle.rules.specs.Frames.{shown, frameLine};
 ghost use Rattle.rules.specs.Convert.{kept, lumaWritten, chromaWritten, convert, lumaAfter, chromaAfter};
 ghost use Rattle.rule_laws.specs.Usable.{Usable};
-
-mod frame;
-mod rows;
+ghost use Rattle.frames.specs.Tests.{Clear};
 
 use rules::Converted;
 use rules::Frame;
@@ -27,6 +26,27 @@ fn answer_of(verdict: Verdict) -> Converted
     }
 }
 
+// Both planes where nothing is refused; else they stay as they were.
+fn write_planes(
+    verdict: Verdict,
+    s: Settings,
+    w: Weights,
+    f: Frame,
+    source: &[u16],
+    luma: &mut [u16],
+    chroma: &mut [u16],
+)
+    requires { ⌜ Usable s w ⌝ }
+    requires { ⌜ Clear s f (now source) (length (now luma)) (length (now chroma)) verdict ⌝ }
+    ensures { λ _. ⌜ now (luma .exit) ≡ kept (lineOf verdict) (lumaWritten s w f (shown s f (now (source .entry))) (now (luma .entry))) (now (luma .entry)) ⌝ }
+    ensures { λ _. ⌜ now (chroma .exit) ≡ kept (lineOf verdict) (chromaWritten s w f (shown s f (now (source .entry))) (now (chroma .entry))) (now (chroma .entry)) ⌝ }
+{
+    match verdict {
+        Verdict::Passes => frame_rows::convert_rows(s, w, f, source, luma, chroma),
+        Verdict::Refuses(r) => {}
+    }
+}
+
 // Converts a frame by settled weights, or refuses it.
 fn convert_settled(
     s: Settings,
@@ -42,7 +62,7 @@ fn convert_settled(
     ensures { λ r. ⌜ now (chroma .exit) ≡ kept (frameLine s f (now (source .entry)) (now (luma .entry)) (now (chroma .entry))) (chromaWritten s w f (shown s f (now (source .entry))) (now (chroma .entry))) (now (chroma .entry)) ⌝ }
 {
     let verdict = frame_refusals::frame_verdict(s, f, source, luma.len(), chroma.len());
-    frame::write_planes(verdict, s, w, f, source, luma, chroma);
+    write_planes(verdict, s, w, f, source, luma, chroma);
     answer_of(verdict)
 }
 

@@ -2,7 +2,6 @@
 use crate::calls;
 use ayresokum::CheckedNumbers;
 use cases::case::Case;
-use cases::planes::get;
 use cases::planes::put;
 
 // A place, and its index in its plane.
@@ -31,14 +30,7 @@ pub(crate) fn names(t: CheckedNumbers, spot: Spot) -> bool {
         && t.element == spot.element
 }
 
-pub(crate) fn get_word(luma: &[u16], chroma: &[u16], spot: Spot) -> u16 {
-    if spot.plane == 0 {
-        return get(luma, spot.at);
-    }
-    get(chroma, spot.at)
-}
-
-pub(crate) fn put_word(luma: &mut [u16], chroma: &mut [u16], spot: Spot, v: u16) {
+fn put_word(luma: &mut [u16], chroma: &mut [u16], spot: Spot, v: u16) {
     if spot.plane == 0 {
         put(luma, spot.at, v);
     } else {

@@ -72,20 +72,20 @@ fn last_chroma(subsampling: u32) -> Spot {
     }
 }
 
-fn try_luma(c: Case, source: &[u16], luma: &mut [u16], chroma: &mut [u16]) {
-    try_words(c, source, luma, chroma, spot_at(0, 0, 0, 0));
-    try_words(c, source, luma, chroma, spot_at(0, 2, 2, 10));
-}
-
-fn try_chroma(c: Case, source: &[u16], luma: &mut [u16], chroma: &mut [u16]) {
-    try_words(c, source, luma, chroma, spot_at(1, 0, 0, 0));
-    try_words(c, source, luma, chroma, last_chroma(c.subsampling));
-}
-
 // The first and the last place of each plane.
+fn spot_of(subsampling: u32, n: usize) -> Spot {
+    match n {
+        0 => spot_at(0, 0, 0, 0),
+        1 => spot_at(0, 2, 2, 10),
+        2 => spot_at(1, 0, 0, 0),
+        _ => last_chroma(subsampling),
+    }
+}
+
 fn try_spots(c: Case, source: &[u16], luma: &mut [u16], chroma: &mut [u16]) {
-    try_luma(c, source, luma, chroma);
-    try_chroma(c, source, luma, chroma);
+    for n in 0..4 {
+        try_words(c, source, luma, chroma, spot_of(c.subsampling, n));
+    }
 }
 
 pub(crate) fn run(c: Case) {

@@ -1,0 +1,38 @@
+-- `frame_rows::rows::process_halved_row` meets its contract. Assumes nothing.
+use borrow.Author.Needs.{needs}
+use mathlib.Core.Path.{_∙_}
+use Rattle.plane_laws.proofs.Tables.{row-written}
+use Rattle.frame_rows.proofs.rows.process_halved_row.Statement.{statement}
+use Rattle.frame_rows.proofs.rows.process_halved_row.Tie as tie
+
+halved-columns-requires : tie.Need-halved-columns-requires
+halved-columns-requires c κs = search needs
+
+last-luma-requires : tie.Need-last-luma-requires
+last-luma-requires c κs = (c .before .before .before .before .before .before .before .before .before .before .before .pre .0, ((c .before .before .before .before .before .before .before .before .before .before .before .pre .1 .0 .narrow, c .before .before .before .before .before .halved-columns .ensures .in-luma .long ∙ c .before .before .before .before .before .before .before .before .before .before .before .pre .1 .0 .luma-long), c .before .before .before .before .before .before .before .before .before .before .before .pre .1 .1))
+
+last-pair-requires : tie.Need-last-pair-requires
+last-pair-requires c κs = (c .before .before .before .before .before .before .before .before .before .before .before .before .before .before .before .pre .0, ((c .before .before .before .before .before .before .before .before .before .before .before .before .before .before .before .pre .1 .0 .narrow, c .before .before .before .before .before .before .before .before .before .halved-columns .ensures .in-chroma .long ∙ c .before .before .before .before .before .before .before .before .before .before .before .before .before .before .before .pre .1 .0 .chroma-long), (c .before .before .before .before .before .before .before .before .before .before .before .before .before .before .before .pre .1 .1, c .before .before .before .before .before .before .before .before .before .before .before .before .before .before .before .pre .1 .1)))
+
+same-length : tie.Need-same-length
+same-length c = search needs
+
+same-length-2 : tie.Need-same-length-2
+same-length-2 c = search needs
+
+returns : tie.Need-returns
+returns c = (
+  row-written _ _ _ _ _ _ (c .before .before .before .before .before .before .before .before .before .before .before .before .before .before .before .before .before .before .pre .1 .0 .luma-long) (c .before .before .before .before .before .before .before .before .before .before .before .before .halved-columns .ensures .in-luma) (c .before .before .before .before .before .before .last-luma .ensures),
+  row-written _ _ _ _ _ _ (c .before .before .before .before .before .before .before .before .before .before .before .before .before .before .before .before .before .before .pre .1 .0 .chroma-long) (c .before .before .before .before .before .before .before .before .before .before .before .before .halved-columns .ensures .in-chroma) (c .before .before .last-pair .ensures),
+)
+
+pub process-halved-row-spec : {M : Type 1} → statement M
+process-halved-row-spec =
+    tie.close
+    (tie.spec
+    halved-columns-requires
+    last-luma-requires
+    last-pair-requires
+    same-length
+    same-length-2
+    returns)

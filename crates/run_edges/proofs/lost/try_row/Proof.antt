@@ -1,0 +1,68 @@
+-- `run_edges::lost::try_row` meets its contract. Assumes nothing.
+use borrow.Author.Needs.{needs}
+use Prim.Native.Nat.{_-_, _≤_}
+use lib.ListN.{length}
+use mathlib.Core.Path.{_≡_}
+use Rattle.run_edges.proofs.lost.try_row.Statement.{statement}
+use Rattle.run_edges.proofs.lost.try_row.Tie as tie
+
+abbrev Inv-loop : tie.InvT-loop
+Inv-loop c source changed₀ luma spare₀ chroma₀ row all₀ n₀ changed spare chroma all n = (length changed ≡ length changed₀) × (length spare ≡ length spare₀) × (length chroma ≡ length chroma₀) × (n ≤ 8)
+
+abbrev μ-loop : tie.MeasureT-loop
+μ-loop c source changed₀ luma spare₀ chroma₀ row all₀ n₀ changed spare chroma all n = 8 - n
+
+none-requires : tie.Need-none-requires Inv-loop μ-loop
+none-requires c κs = search needs
+
+loop-holds : tie.Need-loop-holds Inv-loop μ-loop
+loop-holds c = search needs
+
+mul-column : tie.Need-mul-column Inv-loop μ-loop
+mul-column c = search needs
+
+add-column : tie.Need-add-column Inv-loop μ-loop
+add-column c = search needs
+
+try-partners-requires : tie.Need-try-partners-requires Inv-loop μ-loop
+try-partners-requires c κs = search needs
+
+add-n : tie.Need-add-n Inv-loop μ-loop
+add-n c = search needs
+
+loop-less : tie.Need-loop-less Inv-loop μ-loop
+loop-less c = search needs
+
+loop-again : tie.Need-loop-again Inv-loop μ-loop
+loop-again c = search needs
+
+same-length : tie.Need-same-length Inv-loop μ-loop
+same-length c = search needs
+
+same-length-2 : tie.Need-same-length-2 Inv-loop μ-loop
+same-length-2 c = search needs
+
+same-length-3 : tie.Need-same-length-3 Inv-loop μ-loop
+same-length-3 c = search needs
+
+returns : tie.Need-returns Inv-loop μ-loop
+returns c = search needs
+
+pub try-row-spec : {M : Type 1} → statement M
+try-row-spec =
+    tie.close
+    (tie.spec
+    Inv-loop
+    μ-loop
+    none-requires
+    loop-holds
+    mul-column
+    add-column
+    try-partners-requires
+    add-n
+    loop-less
+    loop-again
+    same-length
+    same-length-2
+    same-length-3
+    returns)
