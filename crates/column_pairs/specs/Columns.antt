@@ -9,7 +9,7 @@ use Rattle.last_column.specs.Columns.{evenColumns, evenElements}
 use Rattle.byte_exchange.specs.Exchanged.{Exchanged}
 use Rattle.packed_store.specs.Pairs.{PairsWritten}
 
--- they are replaced by the words of the upper source row and of one or two source rows
+-- they are replaced by the words of the rules: luma's of the upper source row, chroma's of that row alone or of two
 abbrev pub ColumnsWritten : Settings → Weights → ℕ → Bool → List ℕ → List ℕ → List ℕ → List ℕ → List ℕ → List ℕ → Type 0
 ColumnsWritten s w width two upper lower luma luma′ chroma chroma′ =
     PairsWritten (s .subsampling) width (lumaWords s w upper) (chromaWords s w width two upper lower) luma luma′ chroma chroma′

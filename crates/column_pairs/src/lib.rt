@@ -1,4 +1,4 @@
-// All columns of a row but an odd last one, as they are stored.
+// All columns of a row but an odd last one: the words of a row two columns at a time, then a pass that exchanges their bytes for big endian.
 ghost use mathlib.Core.Path.{_≡_};
 ghost use mathlib.Core.Bool.{true, false};
 ghost use Prim.Native.Nat.{_≤_};

@@ -1,5 +1,6 @@
 // Two source rows at 4:2:0: the chroma row with the upper luma row, and the lower luma row by itself; two columns in each turn, before
-// the bytes are exchanged. The first loop ends by a count of pairs, the second by the row's length: so the compiler makes them shortest.
+// the bytes are exchanged. Pixels are read as if they were Rgb, since the weights stand in source order. The first loop ends by a count of
+// pairs, the second by the row's length: with these tests the compiler makes the shortest loops.
 ghost use mathlib.Core.Path.{_≡_};
 ghost use mathlib.Core.Bool.{true};
 ghost use Prim.Native.Nat.{_≤_};

@@ -1,5 +1,6 @@
 // One source row: a luma row and a chroma row, two columns in each turn, before the bytes are exchanged.
-// The loops end by the row's length: with this test the compiler makes the shortest loops.
+// Pixels are read as if they were Rgb, since the weights stand in source order. The loops end by the row's length: with this test the
+// compiler makes the shortest loops.
 ghost use mathlib.Core.Path.{_≡_};
 ghost use mathlib.Core.Bool.{true, false};
 ghost use lib.ListN.{length};

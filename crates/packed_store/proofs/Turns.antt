@@ -72,13 +72,13 @@ module _ (s : Settings) {width : ℕ} {part : List ℕ} (h : Convertible s width
   long-by = h .long ∙ sym (ap (λ (k : ℕ). width * k) en)
 
   module _ (x i : ℕ) (ei : i ≡ x * n) where
-    -- where the columns left are counted
+    -- in the loop that counts pairs
     pub columns-at : width ≤ 16384 → x + 2 ≤ width → TwoColumns width n x i
     columns-at narrow b =
         let l : (x + 2) * n ≤ width * n = mul-le-mul-right n b in
         record { inside = b; short = omega (arith, ei, l, long-by, part-short narrow); second = omega (arith, ei) }
 
-    -- where the part's length is tested
+    -- in the loops that test the part's length
     pub columns : width ≤ 16384 → i + 2 * n ≤ length part → TwoColumns width n x i
     columns narrow l =
         let g : (x + 2) * n ≤ width * n = omega (arith, ei, long-by, l) in

@@ -1,4 +1,4 @@
-// Two words stored side by side, before their bytes are exchanged.
+// Two words stored at neighbouring elements, before their bytes are exchanged.
 ghost use mathlib.Core.Path.{_≡_};
 ghost use Prim.Native.Nat.{_+_, _≤_};
 ghost use lib.ListN.{length, set};
