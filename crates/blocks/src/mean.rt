@@ -5,7 +5,7 @@ ghost use Prim.Native.Nat.{_+_, _/_};
 ghost use Rattle.rules.specs.Blocks.{averaged};
 use rules::Pixel;
 
-fn wide(x: u16) -> u32
+fn widen(x: u16) -> u32
     ensures { λ r. ⌜ r ≡ x ⌝ }
 {
     x as u32
@@ -14,13 +14,13 @@ fn wide(x: u16) -> u32
 fn half(a: u16, b: u16) -> u16
     ensures { λ r. ⌜ r ≡ (a + b + 1) / 2 ⌝ }
 {
-    ((wide(a) + wide(b) + 1) / 2) as u16
+    ((widen(a) + widen(b) + 1) / 2) as u16
 }
 
 fn quarter(a: u16, b: u16, c: u16, e: u16) -> u16
     ensures { λ r. ⌜ r ≡ (a + b + c + e + 2) / 4 ⌝ }
 {
-    ((wide(a) + wide(b) + wide(c) + wide(e) + 2) / 4) as u16
+    ((widen(a) + widen(b) + widen(c) + widen(e) + 2) / 4) as u16
 }
 
 pub fn mean_of_two(p: Pixel, q: Pixel) -> Pixel

@@ -11,7 +11,7 @@ use lib.Ieee.{Float, nan, inf, fin, binary32, up, down, mul, div, sub, fits}
 use lib.Ieee.Fits.{down-pos, sub-fits}
 use Rattle.rules.specs.Weights.{one, half, minusHalf, whole, ownPart, pair, forward, integers, halfUp, signed, rounded, scaled}
 use Rattle.rules.specs.Settle.{positivePair}
-use Rattle.rule_laws.specs.Signs.{Sized, Bounded}
+use Rattle.rule_laws.specs.Signs.{SignedWithin, Bounded}
 use Rattle.float_laws.proofs.Rounding.{capped}
 use Rattle.float_laws.proofs.Bounds.{Under, times, divided}
 use Rattle.float_laws.proofs.Accept.{known, ratio, rest}
@@ -28,22 +28,22 @@ abs-signed false k = refl
 abs-signed true zero = refl
 abs-signed true (suc k) = refl
 
-sized : (s : Bool) (k b : ℕ) → k ≤ b → Sized s b (signed s k)
+sized : (s : Bool) (k b : ℕ) → k ≤ b → SignedWithin s b (signed s k)
 sized s k b h = record { sign = ap (signed s) (sym (abs-signed s k)); size = subst (λ (z : ℕ). z ≤ b) (sym (abs-signed s k)) h }
 
-sized-rounded : (x : Float) (s : Bool) (n : ℕ) → Under x s n 1 → Sized s n (rounded x)
+sized-rounded : (x : Float) (s : Bool) (n : ℕ) → Under x s n 1 → SignedWithin s n (rounded x)
 unfolding rounded
 sized-rounded nan s n u = absurd u
 sized-rounded (inf t) s n u = absurd u
 sized-rounded (fin t m e) s n u =
-    subst (λ (r : Bool). Sized s n (signed r (capped (halfUp (m * up e) (down e))))) (sym (u .0))
+    subst (λ (r : Bool). SignedWithin s n (signed r (capped (halfUp (m * up e) (down e))))) (sym (u .0))
     (sized s (capped (halfUp (m * up e) (down e))) n (half-le (m * up e) (down e) n (down-pos e) (u .1)))
 
-weight : (x : Float) (s : Bool) (p : ℕ) → Under x s 1 1 → 2 ^ p ≤ 2 ^ 24 → Sized s (2 ^ p) (scaled p x)
+weight : (x : Float) (s : Bool) (p : ℕ) → Under x s 1 1 → 2 ^ p ≤ 2 ^ 24 → SignedWithin s (2 ^ p) (scaled p x)
 weight x s p u h = sized-rounded (mul binary32 x (whole (2 ^ p))) s (2 ^ p) (times x s (2 ^ p) u (pow-pos p) h)
 
 -- any of the nine, from what it is before the range comes in
-part : (x : Float) (s : Bool) (n g p : ℕ) → Under x s 1 1 → 0 < n → n ≤ g → g ≤ 2 ^ 24 → 2 ^ p ≤ 2 ^ 24 → Sized s (2 ^ p) (scaled p (div binary32 (mul binary32 x (whole n)) (whole g)))
+part : (x : Float) (s : Bool) (n g p : ℕ) → Under x s 1 1 → 0 < n → n ≤ g → g ≤ 2 ^ 24 → 2 ^ p ≤ 2 ^ 24 → SignedWithin s (2 ^ p) (scaled p (div binary32 (mul binary32 x (whole n)) (whole g)))
 part x s n g p u N k G h = weight (div binary32 (mul binary32 x (whole n)) (whole g)) s p (divided x s n g u N k G) h
 
 halved-own : Under half false 1 1
@@ -58,7 +58,7 @@ signs rgba ry ruv p kr kb y0 y1 v0 v1 top small f f' t =
     let kgf = sub-fits binary32 (sub binary32 one kr) kb in
     let U = sub binary32 one kb in
     let R = sub binary32 one kr in
-    let own : Sized false (2 ^ p) (scaled p (ownPart rgba ruv)) = part half false ruv rgba p halved-own v0 v1 top small in
+    let own : SignedWithin false (2 ^ p) (scaled p (ownPart rgba ruv)) = part half false ruv rgba p halved-own v0 v1 top small in
     record {
       yr = part kr false ry rgba p (k .kr-one) y0 y1 top small;
       yg = part kg false ry rgba p (k .kg-one) y0 y1 top small;

@@ -8,6 +8,7 @@ ghost use Rattle.rules.specs.Convert.{lumaWritten, chromaWritten};
 ghost use Rattle.rule_laws.specs.Usable.{Usable};
 ghost use Rattle.frames.specs.Tests.{Ready};
 ghost use Rattle.frame_rows.specs.Turns.{Turn, rowsOver, LumaGrows, ChromaGrows};
+
 mod rows;
 
 use frames::rows::source_row;

@@ -79,8 +79,8 @@ unfolding tooLarge
 low-picture m f px h =
     let clean = none-clean (lowTest m px) (3 * f .width) (f .height) (not-found (firstFailing (lowTest m px) (3 * f .width) (f .height)) h) in
     let low : (row x c : ℕ) → row < f .height → x < f .width → c < 3 → channelOf c (px row x) ≤ m = λ row x c b l k.
-        leb-true (channelOf c (px row x)) m
-        (sym (ap (λ (v : ℕ). leb v m) (sample-of px row x c k)) ∙ clean .clean row (3 * x + c) b (omega arith)) in
+    leb-true (channelOf c (px row x)) m
+    (sym (ap (λ (v : ℕ). leb v m) (sample-of px row x c k)) ∙ clean .clean row (3 * x + c) b (omega arith)) in
     record {
       low = λ row b. record {
         low = λ x l. record { red = low row x 0 b l (lit< tt); green = low row x 1 b l (lit< tt); blue = low row x 2 b l (lit< tt) };

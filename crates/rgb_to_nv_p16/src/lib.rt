@@ -8,7 +8,6 @@ ghost use Rattle.rules.specs.Frames.{shown, frameLine};
 ghost use Rattle.rules.specs.Convert.{kept, lumaWritten, chromaWritten, convert, lumaAfter, chromaAfter};
 ghost use Rattle.rule_laws.specs.Usable.{Usable};
 ghost use Rattle.frames.specs.Tests.{Clear};
-
 use rules::Converted;
 use rules::Frame;
 use rules::Settings;

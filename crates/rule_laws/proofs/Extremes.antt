@@ -12,7 +12,7 @@ use Rattle.rules.specs.declared.Pixel.{Pixel}
 use Rattle.rules.specs.Sample.{signedCode}
 use Rattle.rules.specs.Settle.{colour, black}
 use Rattle.integer_laws.proofs.Differences.{pp, np}
-use Rattle.rule_laws.specs.Signs.{Sized}
+use Rattle.rule_laws.specs.Signs.{SignedWithin}
 use Rattle.rule_laws.specs.Codes.{Spans, Coded}
 use Rattle.rule_laws.proofs.Order.{leZ-trans, code-order, code-nonneg, adds, takes}
 
@@ -36,11 +36,11 @@ none k u v e = subst (λ (n : ℕ). n * u ≤ n * v) (sym e) (zeros u v)
     zeros : (u v : ℕ) → 0 * u ≤ 0 * v
     zeros u v = omega arith
 
-to-greatest : (s : Bool) {b : ℕ} {z : ℤ} → Sized s b z → {x m : ℕ} → x ≤ m → Rises z x (greatest s m)
+to-greatest : (s : Bool) {b : ℕ} {z : ℤ} → SignedWithin s b z → {x m : ℕ} → x ≤ m → Rises z x (greatest s m)
 to-greatest false {z} h {x} {m} l = record { up = mul-le-mul-left (pp z) l; down = none (np z) m x (adds h) }
 to-greatest true {z} h {x} {m} l = record { up = none (pp z) x 0 (takes h); down = mul-le-mul-left (np z) zero-le }
 
-from-least : (s : Bool) {b : ℕ} {z : ℤ} → Sized s b z → {x m : ℕ} → x ≤ m → Rises z (least s m) x
+from-least : (s : Bool) {b : ℕ} {z : ℤ} → SignedWithin s b z → {x m : ℕ} → x ≤ m → Rises z (least s m) x
 from-least false {z} h {x} {m} l = record { up = mul-le-mul-left (pp z) zero-le; down = none (np z) x 0 (adds h) }
 from-least true {z} h {x} {m} l = record { up = none (pp z) m x (takes h); down = mul-le-mul-left (np z) l }
 
@@ -61,7 +61,7 @@ lowest m r g b = colour (least r m) (least g m) (least b m)
 abbrev pub highest : ℕ → Bool → Bool → Bool → Pixel
 highest m r g b = colour (greatest r m) (greatest g m) (greatest b m)
 
-module _ (precision m bias : ℕ) (w : Triple) (r g b : Bool) (n : ℕ) (hr : Sized r n (w .red)) (hg : Sized g n (w .green)) (hb : Sized b n (w .blue)) where
+module _ (precision m bias : ℕ) (w : Triple) (r g b : Bool) (n : ℕ) (hr : SignedWithin r n (w .red)) (hg : SignedWithin g n (w .green)) (hb : SignedWithin b n (w .blue)) where
   pub spans : Spans precision m bias w (lowest m r g b) (highest m r g b)
   spans p l =
       record {

@@ -12,7 +12,7 @@ use Rattle.rules.specs.declared.Triple.{Triple}
 use Rattle.rules.specs.declared.Pixel.{Pixel}
 use Rattle.rules.specs.Sample.{weighted, beforeDivision, signedCode}
 use Rattle.integer_laws.proofs.Differences.{pp, np, Is, is-self, is-pos, is-add, is-times}
-use Rattle.rule_laws.specs.Signs.{Sized}
+use Rattle.rule_laws.specs.Signs.{SignedWithin}
 
 -- ---- orders of shifted numbers
 shr-order : {z y : ℤ} {p n q m : ℕ} (k : ℕ) → Is z p n → Is y q m → p + m ≤ q + n → T (leZ (shrZ z (2 ^ k)) (shrZ y (2 ^ k)))
@@ -59,10 +59,10 @@ unfolding signedCode
 code-nonneg precision bias w p h = shr-nonneg precision (sum-is precision bias w p) (omega arith)
 
 -- ---- a weight of a known sign only adds, or only takes away
-pub adds : {b : ℕ} {z : ℤ} → Sized false b z → np z ≡ 0
+pub adds : {b : ℕ} {z : ℤ} → SignedWithin false b z → np z ≡ 0
 adds h = ap np (h .sign)
 
-pub takes : {b : ℕ} {z : ℤ} → Sized true b z → pp z ≡ 0
+pub takes : {b : ℕ} {z : ℤ} → SignedWithin true b z → pp z ≡ 0
 takes {z} h = ap pp (h .sign) ∙ none (natAbs z)
   where
     none : (k : ℕ) → pp (negℤ (pos k)) ≡ 0

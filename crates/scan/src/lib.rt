@@ -9,7 +9,6 @@ ghost use Rattle.rules.specs.Frames.{channelOf, tooLarge};
 ghost use Rattle.frames.specs.Rows.{Rows, LowPicture};
 ghost use Rattle.scan.specs.Fours.{sampleOf, LowFour};
 ghost use Rattle.frames.specs.Tests.{Sized};
-
 use frames::pixels;
 use frames::rows;
 use rules::Frame;

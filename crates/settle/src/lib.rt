@@ -3,7 +3,6 @@ ghost use mathlib.Core.Path.{_≡_};
 ghost use Rattle.rules.specs.Answers.{settledAnswer};
 ghost use Rattle.rules.specs.Settle.{settle};
 ghost use Rattle.settle.specs.Promised.{Promised};
-
 use rules::Refusal;
 use rules::Settings;
 use rules::Settled;

@@ -16,13 +16,13 @@ use samples::code;
 use yuv_support::ranges;
 
 // A fraction's numerator: its size, and whether it is negative.
-pub struct Part {
+pub struct Numerator {
     pub size: u32,
     pub minus: bool,
 }
 
 // w is within 51/100 of 2^P times a / d.
-pub fn weight_near(precision: u32, d: u32, w: i32, a: Part) -> bool
+pub fn weight_near(precision: u32, d: u32, w: i32, a: Numerator) -> bool
     requires { ⌜ precision ≤ 13 ⌝ }
     ensures { λ r. ⌜ r ≡ near precision d w (signed (a .minus) (a .size)) ⌝ }
 {
@@ -45,7 +45,7 @@ pub fn weight_near(precision: u32, d: u32, w: i32, a: Part) -> bool
 }
 
 // A row of three weights over one denominator.
-pub fn row_near(precision: u32, d: u32, w: Triple, a: Part, b: Part, c: Part) -> bool
+pub fn row_near(precision: u32, d: u32, w: Triple, a: Numerator, b: Numerator, c: Numerator) -> bool
     requires { ⌜ precision ≤ 13 ⌝ }
     ensures { λ r. ⌜ r ≡ rowNear precision d w (signed (a .minus) (a .size)) (signed (b .minus) (b .size)) (signed (c .minus) (c .size)) ⌝ }
 {
@@ -67,35 +67,35 @@ pub fn all_near(precision: u32, k: Named, m: u32, y: u32, uv: u32, w: Weights) -
     let kg = 10000 - kr - kb;
     let nr = 10000 - kr;
     let nb = 10000 - kb;
-    let y_r = Part {
+    let y_r = Numerator {
         size: kr * y,
         minus: false,
     };
-    let y_g = Part {
+    let y_g = Numerator {
         size: kg * y,
         minus: false,
     };
-    let y_b = Part {
+    let y_b = Numerator {
         size: kb * y,
         minus: false,
     };
-    let cb_r = Part {
+    let cb_r = Numerator {
         size: kr * uv,
         minus: true,
     };
-    let cb_b = Part {
+    let cb_b = Numerator {
         size: nb * uv,
         minus: false,
     };
-    let cr_r = Part {
+    let cr_r = Numerator {
         size: nr * uv,
         minus: false,
     };
-    let c_g = Part {
+    let c_g = Numerator {
         size: kg * uv,
         minus: true,
     };
-    let cr_b = Part {
+    let cr_b = Numerator {
         size: kb * uv,
         minus: true,
     };
