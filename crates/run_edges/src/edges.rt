@@ -7,6 +7,7 @@ use crate::spot::check_word;
 use crate::spot::get_word;
 use crate::spot::names;
 use crate::spot::put_word;
+use ayresokum::CheckedNumbers;
 use cases::case::Case;
 
 // The lowest and the highest code, and at how many of the two just beyond them the place is named.
@@ -81,73 +82,22 @@ fn next_word(v: usize, step: usize, up: bool) -> usize
     lowered(v, step)
 }
 
-fn is_accepted(
-    c: Case,
-    source: &[u16],
-    luma: &mut [u16],
-    chroma: &mut [u16],
-    spot: Spot,
-    v: usize,
-) -> bool {
-    let word = stored(c.byte_order, v);
-    let t = check_word(c, source, luma, chroma, spot, word);
+fn is_accepted(t: CheckedNumbers) -> bool {
     t.refusal == 0 && t.wrong == 0
 }
 
-// The last word, up or down from one, that is accepted with all words between.
-fn furthest(
-    c: Case,
-    source: &[u16],
-    luma: &mut [u16],
-    chroma: &mut [u16],
-    spot: Spot,
-    v: usize,
-    step: usize,
-    up: bool,
-) -> usize
-    requires { ⌜ (v < 65536) × (step ≤ 64) ⌝ }
-    ensures { λ r. ⌜ r < 65536 ⌝ }
-{
-    let mut last = v;
-    let mut i = 0usize;
-    while i < 65536 {
-        let next = next_word(last, step, up);
-        if next == last {
-            return last;
-        }
-        if !is_accepted(c, source, luma, chroma, spot, next) {
-            return last;
-        }
-        last = next;
-        i += 1;
-    }
-    last
-}
-
-// 1 where a word beyond an edge is answered by its very place, and 0 where not, or where there is no such word.
-fn named_beyond(
-    c: Case,
-    source: &[u16],
-    luma: &mut [u16],
-    chroma: &mut [u16],
-    spot: Spot,
-    edge: usize,
-    beyond: usize,
-) -> usize
+// 1 where an answer names a place, 0 where not.
+fn named(t: CheckedNumbers, spot: Spot) -> usize
     ensures { λ r. ⌜ r ≤ 1 ⌝ }
 {
-    if edge == beyond {
-        return 0;
-    }
-    let word = stored(c.byte_order, beyond);
-    let t = check_word(c, source, luma, chroma, spot, word);
     if names(t, spot) {
         return 1;
     }
     0
 }
 
-// The last accepted word on one side of a place's word, and 1 where the place is named just beyond.
+// The last word, up or down from a place's word, that is accepted with all words between; and 1 where the place is named at the word
+// just beyond, 0 where not, or where there is no such word.
 struct Side {
     word: usize,
     named: usize,
@@ -166,10 +116,30 @@ fn side_of(
     requires { ⌜ (v < 65536) × (step ≤ 64) ⌝ }
     ensures { λ r. ⌜ r .named ≤ 1 ⌝ }
 {
-    let word = furthest(c, source, luma, chroma, spot, v, step, up);
-    let beyond = next_word(word, step, up);
-    let named = named_beyond(c, source, luma, chroma, spot, word, beyond);
-    Side { word, named }
+    let mut last = v;
+    let mut i = 0usize;
+    while i < 65536 {
+        let next = next_word(last, step, up);
+        if next == last {
+            return Side {
+                word: last,
+                named: 0,
+            };
+        }
+        let t = check_word(c, source, luma, chroma, spot, stored(c.byte_order, next));
+        if !is_accepted(t) {
+            return Side {
+                word: last,
+                named: named(t, spot),
+            };
+        }
+        last = next;
+        i += 1;
+    }
+    Side {
+        word: last,
+        named: 0,
+    }
 }
 
 fn both_sides(

@@ -74,28 +74,33 @@ fn try_pixel(
     answers::with_answer(so_far, calls::check(c, source, luma, chroma))
 }
 
-// A pixel from the one beside it, then from the one above or below it.
-fn try_partners(
-    c: Case,
-    source: &[u16],
-    changed: &mut [u16],
-    luma: &[u16],
-    spare: &mut [u16],
-    chroma: &mut [u16],
-    row: usize,
-    column: usize,
-    so_far: Answers,
-) -> Answers
-    requires { ⌜ (row ≤ 32) × (column ≤ 32) ⌝ }
+// Sixteen pictures of a row have a pixel lost: two for each of two columns of four.
+fn column_of(n: usize) -> usize
+    requires { ⌜ n < 16 ⌝ }
+    ensures { λ r. ⌜ r ≤ 32 ⌝ }
 {
-    let to = pixel_at(c, row, column);
-    let beside = pixel_at(c, row, partner(column, c.width));
-    let over = pixel_at(c, partner(row, c.height), column);
-    let next = try_pixel(c, source, changed, luma, spare, chroma, to, beside, so_far);
-    try_pixel(c, source, changed, luma, spare, chroma, to, over, next)
+    n / 4 * 4 + n / 2 % 2
 }
 
-// Two of each four columns.
+fn lost_at(c: Case, row: usize, n: usize) -> usize
+    requires { ⌜ (row ≤ 32) × (n < 16) ⌝ }
+    ensures { λ r. ⌜ r ≤ 2162688 ⌝ }
+{
+    pixel_at(c, row, column_of(n))
+}
+
+// The pixel beside it, then the one above or below it.
+fn taken_from(c: Case, row: usize, n: usize) -> usize
+    requires { ⌜ (row ≤ 32) × (n < 16) ⌝ }
+    ensures { λ r. ⌜ r ≤ 2162688 ⌝ }
+{
+    let column = column_of(n);
+    if n % 2 == 0 {
+        return pixel_at(c, row, partner(column, c.width));
+    }
+    pixel_at(c, partner(row, c.height), column)
+}
+
 fn try_row(
     c: Case,
     source: &[u16],
@@ -108,9 +113,10 @@ fn try_row(
     requires { ⌜ row ≤ 32 ⌝ }
 {
     let mut all = answers::none();
-    for n in 0..8 {
-        let column = n / 2 * 4 + n % 2;
-        all = try_partners(c, source, changed, luma, spare, chroma, row, column, all);
+    for n in 0..16 {
+        let to = lost_at(c, row, n);
+        let from = taken_from(c, row, n);
+        all = try_pixel(c, source, changed, luma, spare, chroma, to, from, all);
     }
     all
 }

@@ -7,10 +7,10 @@ use Rattle.run_edges.proofs.lost.try_row.Statement.{statement}
 use Rattle.run_edges.proofs.lost.try_row.Tie as tie
 
 abbrev Inv-loop : tie.InvT-loop
-Inv-loop c source changed₀ luma spare₀ chroma₀ row all₀ n₀ changed spare chroma all n = (length changed ≡ length changed₀) × (length spare ≡ length spare₀) × (length chroma ≡ length chroma₀) × (n ≤ 8)
+Inv-loop c source changed₀ luma spare₀ chroma₀ row all₀ n₀ changed spare chroma all n = (length changed ≡ length changed₀) × (length spare ≡ length spare₀) × (length chroma ≡ length chroma₀) × (n ≤ 16)
 
 abbrev μ-loop : tie.MeasureT-loop
-μ-loop c source changed₀ luma spare₀ chroma₀ row all₀ n₀ changed spare chroma all n = 8 - n
+μ-loop c source changed₀ luma spare₀ chroma₀ row all₀ n₀ changed spare chroma all n = 16 - n
 
 none-requires : tie.Need-none-requires Inv-loop μ-loop
 none-requires c κs = search needs
@@ -18,14 +18,14 @@ none-requires c κs = search needs
 loop-holds : tie.Need-loop-holds Inv-loop μ-loop
 loop-holds c = search needs
 
-mul-column : tie.Need-mul-column Inv-loop μ-loop
-mul-column c = search needs
+lost-at-requires : tie.Need-lost-at-requires Inv-loop μ-loop
+lost-at-requires c κs = search needs
 
-add-column : tie.Need-add-column Inv-loop μ-loop
-add-column c = search needs
+taken-from-requires : tie.Need-taken-from-requires Inv-loop μ-loop
+taken-from-requires c κs = search needs
 
-try-partners-requires : tie.Need-try-partners-requires Inv-loop μ-loop
-try-partners-requires c κs = search needs
+try-pixel-requires : tie.Need-try-pixel-requires Inv-loop μ-loop
+try-pixel-requires c κs = search needs
 
 add-n : tie.Need-add-n Inv-loop μ-loop
 add-n c = search needs
@@ -56,9 +56,9 @@ try-row-spec =
     μ-loop
     none-requires
     loop-holds
-    mul-column
-    add-column
-    try-partners-requires
+    lost-at-requires
+    taken-from-requires
+    try-pixel-requires
     add-n
     loop-less
     loop-again

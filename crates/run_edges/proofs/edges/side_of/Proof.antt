@@ -1,10 +1,10 @@
--- `run_edges::edges::furthest` meets its contract. Assumes nothing.
+-- `run_edges::edges::side_of` meets its contract. Assumes nothing.
 use borrow.Author.Needs.{needs}
 use Prim.Native.Nat.{_-_, _<_, _≤_}
 use lib.ListN.{length}
 use mathlib.Core.Path.{_≡_}
-use Rattle.run_edges.proofs.edges.furthest.Statement.{statement}
-use Rattle.run_edges.proofs.edges.furthest.Tie as tie
+use Rattle.run_edges.proofs.edges.side_of.Statement.{statement}
+use Rattle.run_edges.proofs.edges.side_of.Tie as tie
 
 abbrev Inv-loop : tie.InvT-loop
 Inv-loop c source luma₀ chroma₀ spot v step up last₀ i₀ luma chroma last i = (length luma ≡ length luma₀) × (length chroma ≡ length chroma₀) × (last < 65536) × (i ≤ 65536)
@@ -27,8 +27,17 @@ same-length-2 c = search needs
 returns : tie.Need-returns Inv-loop μ-loop
 returns c = search needs
 
+stored-requires : tie.Need-stored-requires Inv-loop μ-loop
+stored-requires c κs = search needs
+
+check-word-requires : tie.Need-check-word-requires Inv-loop μ-loop
+check-word-requires c κs = search needs
+
 is-accepted-requires : tie.Need-is-accepted-requires Inv-loop μ-loop
 is-accepted-requires c κs = search needs
+
+named-requires : tie.Need-named-requires Inv-loop μ-loop
+named-requires c κs = search needs
 
 same-length-3 : tie.Need-same-length-3 Inv-loop μ-loop
 same-length-3 c = search needs
@@ -57,8 +66,8 @@ same-length-6 c = search needs
 returns-3 : tie.Need-returns-3 Inv-loop μ-loop
 returns-3 c = search needs
 
-pub furthest-spec : {M : Type 1} → statement M
-furthest-spec =
+pub side-of-spec : {M : Type 1} → statement M
+side-of-spec =
     tie.close
     (tie.spec
     Inv-loop
@@ -68,7 +77,10 @@ furthest-spec =
     same-length
     same-length-2
     returns
+    stored-requires
+    check-word-requires
     is-accepted-requires
+    named-requires
     same-length-3
     same-length-4
     returns-2
