@@ -8,9 +8,6 @@ ghost use Rattle.rules.specs.Convert.{lumaWritten, chromaWritten};
 ghost use Rattle.rule_laws.specs.Usable.{Usable};
 ghost use Rattle.frames.specs.Tests.{Ready};
 ghost use Rattle.frame_rows.specs.Turns.{Turn, rowsOver, LumaGrows, ChromaGrows};
-
-mod rows;
-
 use frames::rows::source_row;
 use rules::Frame;
 use rules::Settings;
@@ -43,7 +40,7 @@ fn lend_row(
     let luma_end = luma_start + width;
     let chroma_start = row * f.chroma_stride;
     let chroma_end = chroma_start + blocks::chroma_width(subsampling, width);
-    rows::process_row(
+    process_rows::process_row(
         s,
         w,
         width,
@@ -74,7 +71,7 @@ fn lend_luma_row(
     let rgba = source_row(channels, f, source, row);
     let start = row * f.luma_stride;
     let end = start + width;
-    rows::process_luma_row(s, w, width, &mut luma[start..end], rgba);
+    process_rows::process_luma_row(s, w, width, &mut luma[start..end], rgba);
 }
 
 // One chroma row and the luma rows over it: two at 4:2:0, but for an odd last row; else one.

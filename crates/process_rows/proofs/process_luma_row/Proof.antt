@@ -1,9 +1,9 @@
--- `frame_rows::rows::process_luma_row` meets its contract. Assumes nothing.
+-- `process_rows::process_luma_row` meets its contract. Assumes nothing.
 use borrow.Author.Needs.{needs}
 use mathlib.Core.Path.{_∙_}
 use Rattle.plane_laws.proofs.Tables.{row-written}
-use Rattle.frame_rows.proofs.rows.process_luma_row.Statement.{statement}
-use Rattle.frame_rows.proofs.rows.process_luma_row.Tie as tie
+use Rattle.process_rows.proofs.process_luma_row.Statement.{statement}
+use Rattle.process_rows.proofs.process_luma_row.Tie as tie
 
 luma-columns-requires : tie.Need-luma-columns-requires
 luma-columns-requires c κs = search needs

@@ -1,4 +1,4 @@
--- `frame_rows::rows::process_row` meets its contract. Assumes nothing.
+-- `process_rows::process_row` meets its contract. Assumes nothing.
 use borrow.Author.Needs.{needs}
 use mathlib.Core.Path.{refl, sym, _∙_}
 use mathlib.Core.Bool.{false, true≢false}
@@ -8,8 +8,8 @@ use Rattle.plane_laws.proofs.Tables.{tabulate-ext}
 use Rattle.frames.specs.Rows.{rowPixel}
 use Rattle.last_column.specs.Words.{chromaWords}
 use Rattle.last_column.proofs.Tiles.{element-ext}
-use Rattle.frame_rows.proofs.rows.process_row.Statement.{statement}
-use Rattle.frame_rows.proofs.rows.process_row.Tie as tie
+use Rattle.process_rows.proofs.process_row.Statement.{statement}
+use Rattle.process_rows.proofs.process_row.Tie as tie
 
 process-double-row-requires : tie.Need-process-double-row-requires
 process-double-row-requires c κs = ((c .before .before .before .before .before .before .before .pre .0 .0, c .before .before .before .before .before .before .before .pre .0 .1 (c .before .before .if1 .taken)), (c .before .before .before .before .before .before .before .pre .1 .0, c .before .before .before .before .before .before .before .pre .1 .1))

@@ -1,9 +1,9 @@
--- `frame_rows::rows::process_double_row` meets its contract. Assumes nothing.
+-- `process_rows::process_double_row` meets its contract. Assumes nothing.
 use borrow.Author.Needs.{needs}
 use mathlib.Core.Path.{_∙_}
 use Rattle.plane_laws.proofs.Tables.{row-written}
-use Rattle.frame_rows.proofs.rows.process_double_row.Statement.{statement}
-use Rattle.frame_rows.proofs.rows.process_double_row.Tie as tie
+use Rattle.process_rows.proofs.process_double_row.Statement.{statement}
+use Rattle.process_rows.proofs.process_double_row.Tie as tie
 
 double-columns-requires : tie.Need-double-columns-requires
 double-columns-requires c κs = search needs
