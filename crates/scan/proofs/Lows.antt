@@ -1,10 +1,11 @@
 -- Rows and pictures of which no sample exceeds m, and that nothing is found in them. Assumes nothing.
-use mathlib.Core.Path.{_≡_, sym, ap, _∙_, subst}
+use mathlib.Core.Path.{_≡_, refl, sym, ap, _∙_, subst}
 use mathlib.Core.Bool.{true}
 use mathlib.Core.List.{List}
 use Prim.Native.Nat.{ℕ, zero, suc, _+_, _*_, _/_, _%_, _≤_, _<_}
 use native.Mathlib.Nat.{le-trans, mul-mod-left, mul-add-mod-self-right, mod-eq-of-lt}
 use native.Mathlib.Omega.{arith}
+use lib.Dec.{leb}
 use lib.ListN.{length, getD}
 use borrow.Author.Tests.{le-leb}
 use borrow.Author.Count.{below-more}
@@ -21,7 +22,7 @@ use Rattle.plane_laws.proofs.Searches.{clean-none}
 use Rattle.frames.specs.Rows.{rowPixel, Shows, LowRow, LowPicture}
 use Rattle.frames.specs.SourceRows.{SourceRow}
 use Rattle.row_bounds.specs.Bounds.{Alike, BoundsAt, Bounds}
-use Rattle.scan.specs.Fours.{LowFour}
+use Rattle.scan.specs.Fours.{sampleOf, LowFour}
 use Rattle.frames.proofs.Places.{places}
 
 -- ---- what is low
@@ -44,6 +45,19 @@ placed-low c m width part fits h =
           let e = step-le x width (count c) (length part) b fits in
           record { red = h x _ b (k .red) (omega (arith, k .red)); green = h x _ b (k .green) (omega (arith, k .green)); blue = h x _ b (k .blue) (omega (arith, k .blue)) };
     }
+
+-- one row, four times
+module _ (c : YuvSourceChannels) (width : ℕ) (part : List ℕ) (long : length part ≡ width * count c) where
+  pub itself : Alike (count c) part part part part
+  itself = record { whole = ap (λ (n : ℕ). n % count c) long ∙ mul-mod-left width (count c); second = refl; third = refl; fourth = refl }
+
+  pub bounded : {m n : ℕ} → n ≤ m → Bounds n (count c) part part part part → LowRow m (rowPixel c part) width
+  bounded {m} {n} l h =
+      row-less l
+      (placed-low c n width part (omega (arith, long))
+      (λ x d w b inside.
+      let e = mul-add-mod-self-right x (count c) d ∙ mod-eq-of-lt (omega (arith, places c .least, b)) in
+      h .each (x * count c + d) inside (omega (arith, e, b)) .first))
 
 -- four rows of a source, side by side
 module _ {c : YuvSourceChannels} {f : Frame} {source : List ℕ} {i j k l : ℕ} {o p q r : List ℕ} (one : SourceRow c f source i o) (two : SourceRow c f source j p) (three : SourceRow c f source k q) (four : SourceRow c f source l r) where
@@ -89,7 +103,10 @@ low-channel m zero p l = l .red
 low-channel m (suc zero) p l = l .green
 low-channel m (suc (suc n)) p l = l .blue
 
--- no colour sample of a row fails
+-- no colour sample of a row fails, nor of the part that shows it
+pub part-low : (c : YuvSourceChannels) (m width : ℕ) (part : List ℕ) → LowRow m (rowPixel c part) width → (i : ℕ) → i < 3 * width → leb (sampleOf c part i) m ≡ true
+part-low c m width part l i b = le-leb (sampleOf c part i) m (low-channel m (i % 3) (rowPixel c part (i / 3)) (l .low (i / 3) (omega arith)))
+
 sample-low : (m row width : ℕ) (px : Picture) → LowRow m (px row) width → (i : ℕ) → i < 3 * width → lowTest m px row i ≡ true
 sample-low m row width px l i b = le-leb (colourSample px row i) m (low-channel m (i % 3) (px row (i / 3)) (l .low (i / 3) (omega arith)))
 

@@ -46,11 +46,14 @@ fn colour_sample(channels: YuvSourceChannels, part: &[u16], width: usize, i: usi
     channel_of(i % 3, pixels::row_pixel(channels, part, width, i / 3))
 }
 
-// The first colour sample of a row that exceeds m, by a row part that shows it.
+// The first colour sample of a row that exceeds m, by the row part that shows it; a row whose bound is at most m is not searched.
 fn row_high(m: u16, channels: YuvSourceChannels, width: usize, row: usize, part: &[u16]) -> Search
-    requires { ⌜ (width ≤ 16384) × (width * count channels ≤ length (now part)) ⌝ }
+    requires { ⌜ (width ≤ 16384) × (length (now part) ≡ width * count channels) ⌝ }
     ensures { λ r. ⌜ r ≡ firstBelow (3 * width) (λ i. failing (leb (sampleOf channels (now (part .entry)) i) m) row i) ⌝ }
 {
+    if row_bounds::four_rows(channels, part, part, part, part) <= (m as u64) {
+        return Search::Nothing;
+    }
     let samples = 3 * width;
     let mut i = 0;
     while i < samples {

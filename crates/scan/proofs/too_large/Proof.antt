@@ -66,7 +66,7 @@ source-row-requires : tie.Need-source-row-requires Inv-loop μ-loop
 source-row-requires c κs = search needs
 
 row-high-requires : tie.Need-row-high-requires Inv-loop μ-loop
-row-high-requires c κs = (c .before .before .before .before .before .before .pre .0 .narrow, omega (arith, c .source-row .ensures .long))
+row-high-requires c κs = (c .before .before .before .before .before .before .pre .0 .narrow, c .source-row .ensures .long)
 
 is-found-requires : tie.Need-is-found-requires Inv-loop μ-loop
 is-found-requires c κs = tt
