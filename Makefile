@@ -10,7 +10,7 @@ CXX ?= c++
 STRICT = -Wall -Wextra -pedantic -Werror
 RULES = $(shell find crates -name '*.rt' -o -name '*.antt') crates.txt
 
-.PHONY: lib demo examples outputs test clean
+.PHONY: lib demo examples outputs output-settings output-frames output-checks output-exports calls rust test clean
 
 lib: build/libayresokum.a build/libayresokum.so
 
@@ -34,16 +34,28 @@ examples: build/demo build/whole_frame
 	build/whole_frame | cmp - examples/whole_frame.txt
 	build/demo | cmp - examples/demo.txt
 
-outputs:
+outputs: output-settings output-frames output-checks output-exports
+
+output-settings:
 	python3 compare/settings.py crates/run_settings/stdout
+
+output-frames:
 	python3 compare/frames.py crates/run_frames/stdout
+
+output-checks:
 	python3 compare/checks.py crates/run_checks/stdout crates/run_edges/stdout
+
+output-exports:
 	python3 compare/exports.py crates/run_exports/stdout
 
-test: examples outputs build/libayresokum.so
+calls: build/libayresokum.so
 	python3 compare/boundary.py
 	python3 compare/calls.py
+
+rust: build/libayresokum.a build/libayresokum.so
 	! command -v cargo > /dev/null || (cd rust && AYRESOKUM_LIB=$(CURDIR)/build cargo test --offline --release)
+
+test: rust examples outputs calls
 
 clean:
 	rm -rf build

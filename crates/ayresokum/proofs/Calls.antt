@@ -14,9 +14,10 @@ use Rattle.rules.specs.Check.{check}
 use Rattle.rule_laws.proofs.Answers.{one-settled, one-converted, one-checked}
 use Rattle.numbers.specs.declared.Meant.{Meant}
 use Rattle.numbers.specs.declared.Meant.the-variants.{Nothing, These}
-use Rattle.ayresokum.specs.declared.SettledNumbers.{SettledNumbers}
-use Rattle.ayresokum.specs.declared.CheckedNumbers.{CheckedNumbers}
-use Rattle.ayresokum.specs.Calls.{unnamed, Told, weightless, settledNumbers, SettleCall, convertedNumber, ConvertCall, lumaCall, chromaCall, told, checkedNumbers, CheckCall}
+use Rattle.answer_numbers.specs.declared.SettledNumbers.{SettledNumbers}
+use Rattle.answer_numbers.specs.declared.CheckedNumbers.{CheckedNumbers}
+use Rattle.answer_numbers.specs.AnswerNumbers.{weightless, settledNumbers, convertedNumber, told, checkedNumbers}
+use Rattle.ayresokum.specs.Calls.{unnamed, Told, SettleCall, ConvertCall, lumaCall, chromaCall, CheckCall}
 
 -- ---- settle
 

@@ -12,7 +12,6 @@ use Rattle.rules.specs.declared.Matrix.{Matrix}
 use Rattle.rules.specs.declared.Matrix.the-variants.{Tabled, Own}
 use Rattle.rules.specs.declared.Checked.{Checked}
 use Rattle.rules.specs.declared.Checked.the-variants.{Accepted, Wrong, Refused}
-use Rattle.rules.specs.declared.Place.{Place}
 use Rattle.rules.specs.declared.Search.{Search}
 use Rattle.rules.specs.declared.Search.the-variants.{Nothing, At}
 use Rattle.rules.specs.Matrices.{matrixOf}
@@ -29,7 +28,7 @@ use Rattle.plane_laws.proofs.Searches.{found-wrong}
 use Rattle.blocks.proofs.Tiles.{width-small, height-small}
 use Rattle.frames.specs.Tests.{Sized}
 use Rattle.frames.proofs.Tests.{ready}
-use Rattle.ayresokum.specs.Places.{Placed}
+use Rattle.answer_numbers.specs.Places.{Placed}
 
 -- the values of an answer are small
 abbrev Small : Answer → Type 0

@@ -2,7 +2,7 @@
 use mathlib.Core.Path.{_≡_, refl, sym}
 use mathlib.Core.Bool.{Bool, true, false, cond, true≢false}
 use mathlib.Core.List.{[], _∷_}
-use Prim.Native.Nat.{ℕ, _+_, _*_, _/_, _%_, _≤_, _<_}
+use Prim.Native.Nat.{ℕ, _+_, _*_, _/_, _≤_, _<_}
 use native.Mathlib.Omega.{arith}
 use lib.Dec.{ltb}
 use borrow.Author.Tests.{ltb-true}
@@ -41,11 +41,6 @@ pub wide-below : (s : YuvChromaSubsampling) (width x : ℕ) → wideAt s width x
 wide-below Yuv420 width x e = ltb-true (x + 1) width e
 wide-below Yuv422 width x e = ltb-true (x + 1) width e
 wide-below Yuv444 width x e = absurd (true≢false (sym e))
-
-pub width-even : (s : YuvChromaSubsampling) (width : ℕ) → chromaWidth s width % 2 ≡ 0
-width-even Yuv420 width = omega arith
-width-even Yuv422 width = omega arith
-width-even Yuv444 width = omega arith
 
 pub width-small : (s : YuvChromaSubsampling) (width : ℕ) → chromaWidth s width ≤ 2 * width + 1
 width-small Yuv420 width = omega arith

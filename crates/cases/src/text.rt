@@ -3,7 +3,7 @@ ghost use mathlib.Core.Path.{_≡_};
 ghost use Prim.Native.Nat.{_≤_, _<_};
 ghost use lib.ListN.{length};
 use crate::case::Case;
-use ayresokum::CheckedNumbers;
+use answer_numbers::CheckedNumbers;
 use libc::STDOUT_FILENO;
 
 fn put(text: &[u8]) {

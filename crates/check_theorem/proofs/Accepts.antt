@@ -1,10 +1,8 @@
 -- THE THEOREM OF THE WORK: for any settings with a named matrix, any frame, source and planes, if convert says done, then check of what
 -- it wrote accepts. Stated over the two promises, for all subsamplings, orders, packings and byte orders. Assumes nothing.
-use mathlib.Core.Path.{_≡_, refl, sym, ap, _∙_, subst}
-use mathlib.Core.Bool.{true}
+use mathlib.Core.Path.{_≡_, sym, ap, _∙_, subst}
 use mathlib.Core.List.{List, [], _∷_}
 use Prim.Native.Nat.{ℕ, _<_}
-use native.Mathlib.Omega.{arith}
 use lib.ListN.{length}
 use Rattle.rules.specs.declared.Settings.{Settings}
 use Rattle.rules.specs.declared.Frame.{Frame}

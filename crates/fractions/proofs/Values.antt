@@ -2,19 +2,17 @@
 use mathlib.Core.Path.{_≡_, refl, sym}
 use mathlib.Core.Bool.{Bool, true, false}
 use mathlib.Core.List.{List}
-use Prim.Native.Nat.{ℕ, _-_, _*_, _≤_}
-use native.Mathlib.Omega.{arith}
+use Prim.Native.Nat.{ℕ, _-_, _*_}
 use lib.IntN.{pos, _-ℤ_, _*ℤ_}
 use lib.ListN.{length}
 use Rattle.rules.specs.declared.Named.{Named}
 use Rattle.rules.specs.declared.Pixel.{Pixel}
-use Rattle.rules.specs.Blocks.{total}
 use Rattle.rules.specs.Fractions.{exactLuma}
 use Rattle.integer_laws.proofs.Differences.{is-pos, is-times, is-as, is-same, is-less}
-use Rattle.tolerance_laws.specs.Block.{Block, one, two, four}
+use Rattle.tolerance_laws.specs.Block.{two}
 use Rattle.tolerance_laws.specs.Chroma.{ownK, exactChroma}
 use Rattle.fractions.specs.declared.Sums.{Sums}
-use Rattle.fractions.specs.Sums.{sumsOf, lumaBy, ownSum, chromaBy, UpToFour}
+use Rattle.fractions.specs.Sums.{sumsOf, lumaBy, ownSum, chromaBy}
 
 -- ---- the numerators
 
@@ -37,10 +35,3 @@ pub chroma-of : (u : Bool) (k : Named) (m bias range : ℕ) {under : ℕ} {s : S
     chromaBy k bias range under (ownSum u s) s ≡ exactChroma u k m bias range b
 chroma-of true k m bias range b e f = λ i. chromaBy k bias range (f i) (e i .blue) (e i)
 chroma-of false k m bias range b e f = λ i. chromaBy k bias range (f i) (e i .red) (e i)
-
--- the sums of a block at depth 16 or less
-pub sums-up-to-four : {m : ℕ} {b : List Pixel} → m ≤ 65535 → Block m b → UpToFour (sumsOf b)
-unfolding total
-sums-up-to-four l (one h) = record { red≤ = omega arith; green≤ = omega arith; blue≤ = omega arith }
-sums-up-to-four l (two h k) = record { red≤ = omega arith; green≤ = omega arith; blue≤ = omega arith }
-sums-up-to-four l (four h k i j) = record { red≤ = omega arith; green≤ = omega arith; blue≤ = omega arith }

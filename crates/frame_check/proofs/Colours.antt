@@ -19,8 +19,7 @@ use Rattle.rules.specs.Refusals.{Line, first}
 use Rattle.rules.specs.Search.{firstFailing}
 use Rattle.rules.specs.Answers.{given, answer, checkedAnswer}
 use Rattle.rules.specs.Settle.{settleLines}
-use Rattle.rules.specs.Frames.{shown}
-use Rattle.rules.specs.Check.{right, lumaTest, chromaTest, customLine, checkLines, named, judged, judgedBy, judgement, check}
+use Rattle.rules.specs.Check.{right, lumaTest, chromaTest, customLine, named, judged, judgedBy, check}
 use Rattle.rule_laws.proofs.Answers.{one-checked}
 use Rattle.plane_laws.proofs.Searches.{same-search}
 use Rattle.frames.specs.Sources.{SameColours, SamePicture}

@@ -9,7 +9,6 @@ use Rattle.rules.specs.declared.Matrix.{Matrix}
 use Rattle.rules.specs.declared.Matrix.the-variants.{Tabled}
 use Rattle.rules.specs.declared.Search.{Search}
 use Rattle.rules.specs.declared.Search.the-variants.{Nothing, At}
-use Rattle.rules.specs.Channels.{Picture}
 use Rattle.rules.specs.Matrices.{matrixOf}
 use Rattle.rules.specs.Refusals.{Line}
 use Rattle.rules.specs.Answers.{Answer, given, answer, placeValues}

@@ -16,7 +16,6 @@ use Rattle.rules.specs.declared.Matrix.the-variants.{Tabled, Own}
 use Rattle.rules.specs.declared.Checked.{Checked}
 use Rattle.rules.specs.declared.Search.{Search}
 use Rattle.rules.specs.declared.Search.the-variants.{Nothing, At}
-use Rattle.rules.specs.Channels.{Picture}
 use Rattle.rules.specs.Matrices.{matrixOf}
 use Rattle.rules.specs.Blocks.{chromaWidth, chromaHeight}
 use Rattle.rules.specs.Refusals.{Line, passes, refuses, first}

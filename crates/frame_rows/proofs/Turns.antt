@@ -16,7 +16,7 @@ use Rattle.rules.specs.Ranges.{biasY}
 use Rattle.rules.specs.Weights.{lumaRow}
 use Rattle.rules.specs.Channels.{Picture}
 use Rattle.rules.specs.Blocks.{chromaWidth, chromaHeight}
-use Rattle.rules.specs.Planes.{tabulate, written}
+use Rattle.rules.specs.Planes.{tabulate}
 use Rattle.rules.specs.Convert.{wordOf, lumaWord, chromaWord}
 use Rattle.tolerance_laws.proofs.Samples.{luma-word-is}
 use Rattle.plane_laws.proofs.Tables.{tabulate-ext}

@@ -7,7 +7,6 @@ use Rattle.rules.specs.declared.Settings.{Settings}
 use Rattle.rules.specs.declared.Weights.{Weights}
 use Rattle.rules.specs.declared.Frame.{Frame}
 use Rattle.rules.specs.declared.YuvChromaSubsampling.{YuvChromaSubsampling}
-use Rattle.rules.specs.Channels.{Picture}
 use Rattle.rules.specs.Blocks.{chromaWidth, chromaHeight}
 use Rattle.rules.specs.Planes.{written}
 use Rattle.rules.specs.Frames.{shown}

@@ -1,6 +1,5 @@
 -- Sources that agree at every visible colour sample show one picture: the same refusals of a frame, and the same pixels of a block. Assumes nothing.
-use mathlib.Core.Path.{_≡_, refl, sym, ap, _∙_}
-use mathlib.Core.Bool.{Bool, true, false}
+use mathlib.Core.Path.{_≡_, sym, ap, _∙_}
 use mathlib.Core.List.{List, [], _∷_}
 use Prim.Native.Nat.{ℕ, _+_, _*_, _/_, _%_, _<_}
 use native.Mathlib.Omega.{arith}
@@ -17,7 +16,7 @@ use Rattle.rules.specs.Refusals.{line}
 use Rattle.rules.specs.Search.{isFound}
 use Rattle.rules.specs.Frames.{channelOf, lowTest, tooLarge, sizeLine, strideLine, lengthLine, frameLines}
 use Rattle.plane_laws.proofs.Searches.{same-search}
-use Rattle.blocks.specs.Tiles.{leftOf, wideAt, topOf, twoAt, tiles}
+use Rattle.blocks.specs.Tiles.{leftOf, wideAt, topOf, twoAt}
 use Rattle.blocks.proofs.Tiles.{block-tiles, left-below, wide-below, top-below, two-below, tiles-same}
 use Rattle.frames.specs.Sources.{SameColours, SamePicture}
 

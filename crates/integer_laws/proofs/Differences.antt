@@ -2,12 +2,11 @@
 use mathlib.Core.Path.{_≡_, refl, ap, subst⁻¹}
 use mathlib.Core.Bool.{Bool, true, false, not, cond}
 use Prim.Native.Nat.{ℕ, zero, suc, _+_, _*_, _-_, _^_, _≤_, _<_}
-use native.Mathlib.Nat.{div-add-mod', mod-lt, zero-add}
+use native.Mathlib.Nat.{div-add-mod', mod-lt}
 use native.Mathlib.Omega.{arith}
 use lib.Dec.{T, ltb, ltb→lt, nltb→le}
 use lib.IntN.{ℤ, pos, negsuc, _+ℤ_, _-ℤ_, _*ℤ_, negℤ, natAbs, subℕ}
-use lib.Signed.{shrZ, nonNeg, ltZ, leZ}
-use borrow.Author.Tests.{ltb-true}
+use lib.Signed.{shrZ, leZ}
 use mir.Syntax.{w64}
 use mir.Val.{SFits}
 
@@ -57,16 +56,6 @@ is-times {z = pos a} h x = record { is = omega (arith, ap (λ (t : ℕ). t * x) 
 is-times {z = negsuc a} h x =
     record { is = omega (arith, ap (λ (t : ℕ). t * x) (h .is), is-neg (is-pos (suc a * x)) .is) }
 
-pub is-scaled : (x : ℕ) {z : ℤ} {p n : ℕ} → Is z p n → Is (pos x *ℤ z) (x * p) (x * n)
-is-scaled x {z = pos a} h = record { is = omega (arith, ap (λ (t : ℕ). t * x) (h .is)) }
-is-scaled x {z = negsuc a} h =
-    record { is = omega (arith, ap (λ (t : ℕ). t * x) (h .is), is-neg (is-pos (x * suc a)) .is) }
-
--- |z| ≤ t, both ways
-pub abs-le : {z : ℤ} {p n : ℕ} (t : ℕ) → Is z p n → p ≤ n + t → n ≤ p + t → natAbs z ≤ t
-abs-le {z = pos k} t h o u = omega (arith, h .is)
-abs-le {z = negsuc k} t h o u = omega (arith, h .is)
-
 pub le-abs : {z : ℤ} {p n t : ℕ} → Is z p n → natAbs z ≤ t → (p ≤ n + t) × (n ≤ p + t)
 le-abs {z = pos k} h o = (omega (arith, h .is), omega (arith, h .is))
 le-abs {z = negsuc k} h o = (omega (arith, h .is), omega (arith, h .is))
@@ -104,30 +93,9 @@ is-as h e f = record { is = omega (arith, h .is) }
 pub is-shift : {z : ℤ} {p n q m : ℕ} → Is z p n → p + m ≡ q + n → Is z q m
 is-shift h e = record { is = omega (arith, h .is) }
 
--- a difference of two that fit, fits
-pub sfits-of : {z : ℤ} {p n : ℕ} → Is z p n → p < 2 ^ 63 → n < 2 ^ 63 → SFits w64 z
-sfits-of {z = pos k} h a b = record { sfits = omega (arith, h .is) }
-sfits-of {z = negsuc k} h a b = record { sfits = omega (arith, h .is) }
-
-pub nonneg-of : {z : ℤ} {p n : ℕ} → Is z p n → n ≤ p → T (nonNeg z)
-nonneg-of {z = pos k} h l = tt
-nonneg-of {z = negsuc k} h l = absurd (omega (arith, h .is))
-
 pub abs-parts : (z : ℤ) → natAbs z ≡ pp z + np z
 abs-parts (pos n) = omega arith
 abs-parts (negsuc n) = omega arith
-
-pub test-neg : (z : ℤ) → ltZ z (pos 0) ≡ true → pp z ≡ 0
-test-neg (pos n) e = absurd (omega (arith, ltb-true n 0 e))
-test-neg (negsuc n) e = refl
-
-pub test-nonneg : (z : ℤ) → ltZ z (pos 0) ≡ false → np z ≡ 0
-test-nonneg (pos n) e = refl
-test-nonneg (negsuc n) e = let z : _≡_ {A = ℕ} 0 1 = cc in absurd (omega arith)
-
--- 0 − z
-pub is-negated : (z : ℤ) → Is (pos 0 -ℤ z) (np z) (pp z)
-is-negated z = is-as (is-minus (is-pos 0) (is-self z)) (zero-add _) (zero-add _)
 
 -- ---- sizes: the triangle's law, and what fits an `i64`
 
@@ -142,9 +110,6 @@ abs-mul (negsuc a) x = abs-neg (pos (suc a * x))
 
 pub abs-plus : (y z : ℤ) → natAbs (y +ℤ z) ≤ natAbs y + natAbs z
 abs-plus y z = omega (arith, abs-is (is-add (is-self y) (is-self z)), abs-parts y, abs-parts z)
-
-pub abs-less : (y z : ℤ) → natAbs (y -ℤ z) ≤ natAbs y + natAbs z
-abs-less y z = omega (arith, abs-is (is-minus (is-self y) (is-self z)), abs-parts y, abs-parts z)
 
 pub sfits-abs : {z : ℤ} → natAbs z < 2 ^ 63 → SFits w64 z
 sfits-abs {z = pos n} h = record { sfits = h }

@@ -14,9 +14,8 @@ use Rattle.rules.specs.declared.YuvSourceChannels.{YuvSourceChannels}
 use Rattle.rules.specs.declared.YuvSourceChannels.the-variants.{Rgb, Rgba, Bgra, Bgr}
 use Rattle.rules.specs.declared.YuvChromaSubsampling.{YuvChromaSubsampling}
 use Rattle.rules.specs.declared.YuvChromaSubsampling.the-variants.{Yuv420, Yuv422, Yuv444}
-use Rattle.rules.specs.Ranges.{most, biasY, biasUV}
+use Rattle.rules.specs.Ranges.{most, biasUV}
 use Rattle.rules.specs.Channels.{count, isU, uAt, pixelAt}
-use Rattle.rules.specs.Weights.{lumaRow}
 use Rattle.rules.specs.Sample.{code}
 use Rattle.rules.specs.Blocks.{averaged, total}
 use Rattle.rules.specs.Storage.{packed}

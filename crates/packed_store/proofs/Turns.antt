@@ -2,9 +2,9 @@
 use mathlib.Core.Path.{_≡_, refl, sym, ap, _∙_, subst}
 use mathlib.Core.Logic.{⊎-elim}
 use mathlib.Core.Bool.{Bool, true, false, true≢false}
-use mathlib.Core.List.{List, [], _∷_}
+use mathlib.Core.List.{List}
 use Prim.Native.Nat.{ℕ, _+_, _*_, _/_, _%_, _≤_, _<_}
-use native.Mathlib.Nat.{le-of-mul-le-mul-right, mul-le-mul-right, lt-irrefl, not-le-of-lt}
+use native.Mathlib.Nat.{le-of-mul-le-mul-right, mul-le-mul-right, lt-irrefl}
 use native.Mathlib.Omega.{arith}
 use lib.ListN.{length, set}
 use Rattle.rules.specs.declared.Settings.{Settings}
@@ -16,7 +16,7 @@ use Rattle.rules.specs.declared.YuvChromaSubsampling.{YuvChromaSubsampling}
 use Rattle.rules.specs.declared.YuvChromaSubsampling.the-variants.{Yuv420, Yuv422, Yuv444}
 use Rattle.rules.specs.Ranges.{most}
 use Rattle.rules.specs.Channels.{count, pixelAt}
-use Rattle.rules.specs.Blocks.{averaged, chromaWidth}
+use Rattle.rules.specs.Blocks.{chromaWidth}
 use Rattle.rule_laws.specs.Codes.{Low}
 use Rattle.plane_laws.specs.Rows.{Begun}
 use Rattle.plane_laws.proofs.Tests.{lt-or-le}

@@ -11,7 +11,7 @@ use Rattle.rules.specs.declared.Refusal.{Refusal}
 use Rattle.rules.specs.declared.Verdict.{Verdict}
 use Rattle.rules.specs.declared.Verdict.the-variants.{Passes, Refuses}
 use Rattle.rules.specs.Weights.{weightsOf}
-use Rattle.rules.specs.Refusals.{Line, refuses, first, lineOf}
+use Rattle.rules.specs.Refusals.{Line, refuses, lineOf}
 use Rattle.rules.specs.Answers.{Answer, given, refused, answer, weightValues}
 use Rattle.rules.specs.Settle.{settleLines, settle}
 use Rattle.rules.specs.Frames.{shown, frameLines, frameLine}

@@ -4,8 +4,8 @@ ghost use mathlib.Core.List.{[]};
 ghost use lib.ListN.{length};
 ghost use Rattle.rules.specs.Refusals.{lineOf};
 ghost use Rattle.rules.specs.Answers.{given, answer, convertedAnswer};
-ghost use Rattle.rules.specs.Frames.{shown, frameLine};
-ghost use Rattle.rules.specs.Convert.{kept, lumaWritten, chromaWritten, convert, lumaAfter, chromaAfter};
+ghost use Rattle.rules.specs.Frames.{frameLine};
+ghost use Rattle.rules.specs.Convert.{lumaLeft, chromaLeft, convert, lumaAfter, chromaAfter};
 ghost use Rattle.rule_laws.specs.Usable.{Usable};
 ghost use Rattle.frames.specs.Tests.{Clear};
 use rules::Converted;
@@ -37,8 +37,8 @@ fn write_planes(
 )
     requires { ⌜ Usable s w ⌝ }
     requires { ⌜ Clear s f (now source) (length (now luma)) (length (now chroma)) verdict ⌝ }
-    ensures { λ _. ⌜ now (luma .exit) ≡ kept (lineOf verdict) (lumaWritten s w f (shown s f (now (source .entry))) (now (luma .entry))) (now (luma .entry)) ⌝ }
-    ensures { λ _. ⌜ now (chroma .exit) ≡ kept (lineOf verdict) (chromaWritten s w f (shown s f (now (source .entry))) (now (chroma .entry))) (now (chroma .entry)) ⌝ }
+    ensures { λ _. ⌜ now (luma .exit) ≡ lumaLeft (lineOf verdict) s w f (now (source .entry)) (now (luma .entry)) ⌝ }
+    ensures { λ _. ⌜ now (chroma .exit) ≡ chromaLeft (lineOf verdict) s w f (now (source .entry)) (now (chroma .entry)) ⌝ }
 {
     match verdict {
         Verdict::Passes => frame_rows::convert_rows(s, w, f, source, luma, chroma),
@@ -57,8 +57,8 @@ fn convert_settled(
 ) -> Converted
     requires { ⌜ Usable s w ⌝ }
     ensures { λ r. ⌜ convertedAnswer r ≡ answer (frameLine s f (now (source .entry)) (now (luma .entry)) (now (chroma .entry))) (given []) ⌝ }
-    ensures { λ r. ⌜ now (luma .exit) ≡ kept (frameLine s f (now (source .entry)) (now (luma .entry)) (now (chroma .entry))) (lumaWritten s w f (shown s f (now (source .entry))) (now (luma .entry))) (now (luma .entry)) ⌝ }
-    ensures { λ r. ⌜ now (chroma .exit) ≡ kept (frameLine s f (now (source .entry)) (now (luma .entry)) (now (chroma .entry))) (chromaWritten s w f (shown s f (now (source .entry))) (now (chroma .entry))) (now (chroma .entry)) ⌝ }
+    ensures { λ r. ⌜ now (luma .exit) ≡ lumaLeft (frameLine s f (now (source .entry)) (now (luma .entry)) (now (chroma .entry))) s w f (now (source .entry)) (now (luma .entry)) ⌝ }
+    ensures { λ r. ⌜ now (chroma .exit) ≡ chromaLeft (frameLine s f (now (source .entry)) (now (luma .entry)) (now (chroma .entry))) s w f (now (source .entry)) (now (chroma .entry)) ⌝ }
 {
     let verdict = frame_refusals::frame_verdict(s, f, source, luma.len(), chroma.len());
     write_planes(verdict, s, w, f, source, luma, chroma);

@@ -7,9 +7,7 @@ use native.Mathlib.Omega.{arith}
 use lib.Dec.{leb, ltb, eqb}
 use lib.IntN.{ℤ}
 use borrow.Author.Tests.{le-leb, lt-leb, le-ltb, lt-ltb, leb-true, leb-false, eq-eqb}
-use Rattle.rules.specs.declared.Verdict.{Verdict}
-use Rattle.rules.specs.declared.Verdict.the-variants.{Passes, Refuses}
-use Rattle.rules.specs.Refusals.{Line, passes, refuses, line, earlier, first, lineOf, outside}
+use Rattle.rules.specs.Refusals.{Line, passes, refuses, line, earlier, first, outside}
 
 -- ---- a table's lines
 pub end : first [] ≡ passes
@@ -95,10 +93,6 @@ parted (l ∷ ls) ms h =
     (skip l ls (p .0) ∙ q .0, q .1)
 
 -- ---- the verdicts of code
-
-pub verdict-passes : (v : Verdict) → lineOf v ≡ passes → v ≡ Passes
-verdict-passes Passes h = refl
-verdict-passes (Refuses r) h = absurd (let z : _≡_ {A = ℕ} 0 1 = cc in omega arith)
 
 -- ---- a number below a lower bound, from it on, and within two bounds
 module _ (low high n : ℕ) where

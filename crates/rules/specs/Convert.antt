@@ -55,12 +55,19 @@ chromaWritten s w f px chroma =
     written (f .«chroma_stride») (chromaWidth (s .subsampling) (f .width)) (chromaHeight (s .subsampling) (f .height))
     (chromaWord s w (f .width) (f .height) px) chroma
 
+-- what is left in them, by what the table comes to
+abbrev pub lumaLeft : Line → Settings → Weights → Frame → List ℕ → List ℕ → List ℕ
+lumaLeft l s w f source luma = kept l (lumaWritten s w f (shown s f source) luma) luma
+
+abbrev pub chromaLeft : Line → Settings → Weights → Frame → List ℕ → List ℕ → List ℕ
+chromaLeft l s w f source chroma = kept l (chromaWritten s w f (shown s f source) chroma) chroma
+
 -- THE PROMISE of convert: its answer, and both planes after it
 unfoldable pub convert : Settings → Frame → List ℕ → List ℕ → List ℕ → Answer
 convert s f source luma chroma = answer (verdict s f source luma chroma) (given [])
 
 unfoldable pub lumaAfter : Settings → Frame → List ℕ → List ℕ → List ℕ → List ℕ
-lumaAfter s f source luma chroma = kept (verdict s f source luma chroma) (lumaWritten s (weightsOf s) f (shown s f source) luma) luma
+lumaAfter s f source luma chroma = lumaLeft (verdict s f source luma chroma) s (weightsOf s) f source luma
 
 unfoldable pub chromaAfter : Settings → Frame → List ℕ → List ℕ → List ℕ → List ℕ
-chromaAfter s f source luma chroma = kept (verdict s f source luma chroma) (chromaWritten s (weightsOf s) f (shown s f source) chroma) chroma
+chromaAfter s f source luma chroma = chromaLeft (verdict s f source luma chroma) s (weightsOf s) f source chroma

@@ -1,5 +1,5 @@
 // The two exported functions on a case.
-use ayresokum::CheckedNumbers;
+use answer_numbers::CheckedNumbers;
 use cases::case;
 use cases::case::Case;
 

@@ -1,5 +1,5 @@
 // Rows left over from another frame, 5×4 both: each row of each plane alone, and each with all rows below it.
-ghost use Prim.Native.Nat.{_<_, _≤_};
+ghost use Prim.Native.Nat.{_≤_};
 use crate::calls;
 use crate::planes;
 use cases::case::Case;

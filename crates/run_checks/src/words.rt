@@ -5,7 +5,7 @@ use crate::spot::Spot;
 use crate::spot::check_word;
 use crate::spot::names;
 use crate::spot::spot_at;
-use ayresokum::CheckedNumbers;
+use answer_numbers::CheckedNumbers;
 use cases::case::Case;
 use cases::draw;
 use cases::text;

@@ -1,6 +1,6 @@
 // Many answers of the check in three numbers: how many accept, how many name a sample, and a checksum of all of them.
 ghost use Prim.Native.Nat.{_<_};
-use ayresokum::CheckedNumbers;
+use answer_numbers::CheckedNumbers;
 
 pub(crate) struct Answers {
     pub accepted: usize,

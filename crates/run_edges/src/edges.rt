@@ -1,13 +1,12 @@
 // The codes that are accepted at a place: from the stored one up and down as far as they go, and whether the check names that very
 // place at the codes just beyond.
-ghost use mathlib.Core.Path.{_≡_};
 ghost use Prim.Native.Nat.{_≤_, _<_};
 use crate::spot::Spot;
 use crate::spot::check_word;
 use crate::spot::get_word;
 use crate::spot::names;
 use crate::spot::put_word;
-use ayresokum::CheckedNumbers;
+use answer_numbers::CheckedNumbers;
 use cases::case::Case;
 
 // The lowest and the highest code, and at how many of the two just beyond them the place is named.

@@ -1,6 +1,6 @@
 // One case: the answers of settle, convert and check, each with all its numbers, and both planes.
-use ayresokum::CheckedNumbers;
-use ayresokum::SettledNumbers;
+use answer_numbers::CheckedNumbers;
+use answer_numbers::SettledNumbers;
 use cases::case;
 use cases::case::Case;
 use cases::draw;

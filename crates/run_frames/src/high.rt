@@ -1,7 +1,7 @@
 // One sample made too large at the first, the middle and the last pixel of each row: which frames are refused, and which are not, since
 // the sample is alpha or padding.
 ghost use Prim.Native.Nat.{_≤_, _<_};
-use ayresokum::CheckedNumbers;
+use answer_numbers::CheckedNumbers;
 use cases::case;
 use cases::case::Case;
 use cases::draw;

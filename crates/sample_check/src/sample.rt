@@ -1,6 +1,6 @@
 // The test of one sample by its exact fraction, over whole numbers.
 ghost use mathlib.Core.Path.{_≡_};
-ghost use Prim.Native.Nat.{_+_, _*_, _<_, _≤_};
+ghost use Prim.Native.Nat.{_+_, _*_, _≤_};
 ghost use lib.ListN.{length};
 ghost use Rattle.rules.specs.Channels.{count};
 ghost use Rattle.rule_laws.specs.Usable.{Reach};

@@ -27,7 +27,7 @@ use Rattle.rule_laws.specs.Codes.{Between}
 use Rattle.rule_laws.proofs.Depths.{sane}
 use Rattle.rule_laws.proofs.Extremes.{spans, coded, black-code}
 use Rattle.float_laws.proofs.Signs.{signs}
-use Rattle.yuv_support.specs.Held.{Held}
+use Rattle.weights.specs.Held.{Held}
 use Rattle.rule_laws.specs.Usable.{Usable}
 use Rattle.settle.proofs.Verdicts.{Passed, passed}
 

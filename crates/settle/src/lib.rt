@@ -9,7 +9,6 @@ use rules::Settled;
 use settings_refusals::codes;
 use settings_refusals::pairs;
 use yuv_support::matrices;
-use yuv_support::weights;
 
 // The nine weights of the settings, or the first of refusals 1 to 5 that applies.
 pub fn settle(s: Settings) -> Settled

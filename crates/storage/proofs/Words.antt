@@ -58,10 +58,6 @@ module _ (k : YuvBytesPacking) (e : YuvEndianness) (d : ℕ) (deep : d ≤ 16) w
   unfolding word
   undone h = exchanged-twice e (packed-fits k d deep h)
 
-  pub word-fits : {c : ℕ} → c ≤ most d → word k e d c < 65536
-  unfolding word
-  word-fits h = exchanged-fits e (packed-fits k d deep h)
-
   -- a stored code reads back as itself
   pub reads-back : {c : ℕ} → c ≤ most d → stored k e d (word k e d c) ≡ c
   reads-back {c} h = ap (unpacked k d) (undone h) ∙ unpacked-packed k d c

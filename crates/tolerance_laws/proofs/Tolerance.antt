@@ -10,11 +10,11 @@ use lib.Signed.{leZ}
 use Rattle.rules.specs.declared.Pixel.{Pixel}
 use Rattle.rules.specs.declared.Named.{Named}
 use Rattle.rules.specs.declared.Weights.{Weights}
-use Rattle.rules.specs.Weights.{lumaRow, cbRow, crRow}
+use Rattle.rules.specs.Weights.{lumaRow}
 use Rattle.rules.specs.Sample.{signedCode, code}
 use Rattle.rules.specs.Blocks.{averaged}
 use Rattle.rules.specs.Settle.{allNear}
-use Rattle.rules.specs.Fractions.{Fraction, exactLuma, exactCb, exactCr, halves, within}
+use Rattle.rules.specs.Fractions.{Fraction, exactLuma, halves, within}
 use Rattle.rule_laws.specs.Codes.{Low}
 use Rattle.tolerance_laws.specs.Block.{Block}
 use Rattle.tolerance_laws.specs.Chroma.{chromaRow, ownK, exactChroma}
@@ -53,11 +53,3 @@ module _ {P : ℕ} {k : Named} {m y uv : ℕ} {w : Weights} (n : NearAll P k m y
       subst (λ (x : Fraction). within P m (halves b) x (code P bias (chromaRow u w) (averaged b)) ≡ true) (chroma-exact k (n .whole) uv m bias b u)
       (block-within P m (2 * (10000 - ownK u k) * m) (chromaRow u w) (chromaFactors u k uv) (n .some) (chroma-near u) bias
       (chroma-slight k (n .whole) uv u m (n .narrow)) l t)
-
-  pub cb-within : (bias : ℕ) {b : List Pixel} → Block m b → T (leZ (pos 0) (signedCode P bias (cbRow w) (averaged b))) →
-      within P m (halves b) (exactCb k m bias uv b) (code P bias (cbRow w) (averaged b)) ≡ true
-  cb-within = chroma-within true
-
-  pub cr-within : (bias : ℕ) {b : List Pixel} → Block m b → T (leZ (pos 0) (signedCode P bias (crRow w) (averaged b))) →
-      within P m (halves b) (exactCr k m bias uv b) (code P bias (crRow w) (averaged b)) ≡ true
-  cr-within = chroma-within false

@@ -32,7 +32,7 @@ use Rattle.tolerance_laws.specs.NearAll.{NearAll}
 use Rattle.tolerance_laws.proofs.Means.{averaged-low}
 use Rattle.tolerance_laws.proofs.Named.{named-near}
 use Rattle.tolerance_laws.proofs.Tolerance.{luma-within, chroma-within}
-use Rattle.yuv_support.specs.Held.{Held}
+use Rattle.weights.specs.Held.{Held}
 use Rattle.settle.proofs.Verdicts.{passed}
 use Rattle.settle.proofs.Weighed.{usable}
 

@@ -1,5 +1,4 @@
-// Carried over from src/yuv_support.rs: ranges, channel and chroma places, matrices and weights.
+// Carried over from src/yuv_support.rs: ranges, channel and chroma places, and matrices; its weights are the crate `weights`.
 pub mod channels;
 pub mod matrices;
 pub mod ranges;
-pub mod weights;

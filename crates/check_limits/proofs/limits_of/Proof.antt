@@ -3,7 +3,6 @@ use borrow.Author.Needs.{needs}
 use mathlib.Core.Path.{sym, subst}
 use Prim.Native.Nat.{ℕ, _*_, _≤_}
 use native.Mathlib.Omega.{arith}
-use Rattle.rules.specs.Ranges.{most}
 use Rattle.samples.proofs.Codes.{most-small}
 use Rattle.check_limits.specs.Limits.{LimitOf, BlockLimitsOf}
 use Rattle.check_limits.proofs.Limits.{of-divisor}

@@ -1,6 +1,5 @@
 -- `column_pairs::exchange_columns` meets its contract. Assumes nothing.
 use borrow.Author.Needs.{needs}
-use mathlib.Core.Path.{ap}
 use native.Mathlib.Omega.{arith}
 use Rattle.byte_exchange.proofs.Exchanges.{exchanged-same}
 use Rattle.column_pairs.proofs.Exchanges.{elements-in}

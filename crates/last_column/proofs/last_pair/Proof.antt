@@ -12,7 +12,6 @@ use Rattle.plane_laws.proofs.Tables.{finished-at, finished-none, finished-two}
 use Rattle.blocks.specs.Tiles.{leftOf}
 use Rattle.blocks.proofs.Tiles.{width-small, tiles-block}
 use Rattle.frames.specs.Rows.{rowPixel}
-use Rattle.last_column.specs.Words.{chromaElement}
 use Rattle.last_column.specs.Columns.{elementsOver}
 use Rattle.last_column.proofs.Tiles.{found, stored}
 use Rattle.last_column.proofs.Last.{odd, none-left, columns-before, pair-last, pair-even, pair-left, pair-narrow}

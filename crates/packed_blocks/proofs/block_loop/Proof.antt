@@ -14,7 +14,7 @@ use Rattle.plane_laws.proofs.Tables.{begun-none, begun-at}
 use Rattle.frames.specs.Rows.{rowPixel}
 use Rattle.packed_store.specs.Packed.{packedLumaRow, packedChromaRow}
 use Rattle.packed_store.proofs.Readings.{two-rows}
-use Rattle.packed_store.proofs.Turns.{TwoColumns, TwoPixels, small, columns-at, first-room, second-room, pixels, luma-turn, pair-turn, wide-enough, pairs-written}
+use Rattle.packed_store.proofs.Turns.{TwoColumns, TwoPixels, columns-at, first-room, second-room, pixels, luma-turn, pair-turn, wide-enough, pairs-written}
 use Rattle.packed_blocks.proofs.block_loop.Statement.{statement}
 use Rattle.packed_blocks.proofs.block_loop.Tie as tie
 

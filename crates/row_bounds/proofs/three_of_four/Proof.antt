@@ -1,5 +1,4 @@
 -- `row_bounds::three_of_four` meets its contract: `bound` bounds the colour samples of the pixels passed. Assumes nothing.
-use borrow.Author.Needs.{needs}
 use Prim.Native.Nat.{_≤_, _-_, _%_}
 use mathlib.Core.Path.{_≡_}
 use native.Mathlib.Omega.{arith}

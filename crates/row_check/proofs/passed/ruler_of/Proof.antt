@@ -2,7 +2,6 @@
 use borrow.Author.Needs.{needs}
 use mathlib.Core.Path.{ap, _∙_}
 use mathlib.Core.Bool.{Bool, true, false}
-use Rattle.blocks.specs.Tiles.{paired}
 use Rattle.check_limits.specs.Limits.{ownLimit}
 use Rattle.check_limits.proofs.Limits.{own-fits, chroma-modest}
 use Rattle.gauges.specs.Gauges.{sharesOf, gaugeOf}

@@ -5,9 +5,6 @@ use Rattle.rules.specs.Settle.{pairOff}
 use borrow.Author.Needs.{needs}
 use Rattle.settings_refusals.proofs.pairs.pair_off.Statement.{statement}
 use Rattle.settings_refusals.proofs.pairs.pair_off.Tie as tie
-use Rattle.settings_refusals.proofs.pairs.pair_off.Reads as reads
-use Rattle.settings_refusals.proofs.pairs.pair_off.Lts as lts
-use Rattle.settings_refusals.proofs.pairs.positive_pair.Reads as positive-pair-reads
 
 -- src/matrices.rt:59:30
 enum-told : tie.Need-enum-told

@@ -2,8 +2,6 @@
 use lib.Ieee.{ofBits}
 use Rattle.settings_refusals.proofs.pairs.positive_pair.Statement.{statement}
 use Rattle.settings_refusals.proofs.pairs.positive_pair.Tie as tie
-use Rattle.settings_refusals.proofs.pairs.positive_pair.Reads as reads
-use Rattle.settings_refusals.proofs.pairs.positive_pair.Lts as lts
 
 -- src/matrices.rt:48:13
 returns : tie.Need-returns

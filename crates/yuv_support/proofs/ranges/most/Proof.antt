@@ -6,8 +6,6 @@ use Rattle.integer_laws.proofs.Shifts.{one-shl}
 use borrow.Author.Needs.{needs}
 use Rattle.yuv_support.proofs.ranges.most.Statement.{statement}
 use Rattle.yuv_support.proofs.ranges.most.Tie as tie
-use Rattle.yuv_support.proofs.ranges.most.Reads as reads
-use Rattle.yuv_support.proofs.ranges.most.Lts as lts
 
 -- src/ranges.rt:22:6
 shl-result : tie.Need-shl-result

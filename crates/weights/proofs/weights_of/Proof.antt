@@ -1,12 +1,12 @@
--- `yuv_support::weights::weights_of` meets its contract. Assumes nothing.
+-- `weights::weights_of` meets its contract. Assumes nothing.
 use borrow.Author.Needs.{needs}
 use mathlib.Core.Path.{ap, _∙_, subst}
 use lib.Dec.{T}
 use lib.Ieee.{binary32, fits}
 use Rattle.rules.specs.declared.YuvBias.{YuvBias}
 use Rattle.rules.specs.Weights.{pair, forward, integers, weightsOf}
-use Rattle.yuv_support.proofs.weights.weights_of.Statement.{statement}
-use Rattle.yuv_support.proofs.weights.weights_of.Tie as tie
+use Rattle.weights.proofs.weights_of.Statement.{statement}
+use Rattle.weights.proofs.weights_of.Tie as tie
 
 get-kr-kb-requires : tie.Need-get-kr-kb-requires
 get-kr-kb-requires c κs = search needs

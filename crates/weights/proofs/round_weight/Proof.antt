@@ -1,4 +1,4 @@
--- `yuv_support::weights::round_weight` meets its contract. Assumes nothing.
+-- `weights::round_weight` meets its contract. Assumes nothing.
 use mathlib.Core.Path.{ap, _∙_}
 use lib.IntN.{negℤ}
 use lib.Ieee.{ofBits}
@@ -6,8 +6,8 @@ use mir.Syntax.{w32}
 use mir.ValLaws.{toZ-pos}
 use Rattle.float_laws.proofs.Rounding.{rounded-lt, rounded-neg, neg-not-negative}
 use Rattle.integer_laws.proofs.Machine.{minus-fits32, minus-back32}
-use Rattle.yuv_support.proofs.weights.round_weight.Statement.{statement}
-use Rattle.yuv_support.proofs.weights.round_weight.Tie as tie
+use Rattle.weights.proofs.round_weight.Statement.{statement}
+use Rattle.weights.proofs.round_weight.Tie as tie
 
 round-half-up-requires : tie.Need-round-half-up-requires
 unfolding ofBits

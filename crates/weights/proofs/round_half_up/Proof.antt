@@ -1,4 +1,4 @@
--- `yuv_support::weights::round_half_up` meets its contract. Assumes nothing.
+-- `weights::round_half_up` meets its contract. Assumes nothing.
 use borrow.Author.Needs.{needs}
 use mathlib.Core.Path.{_≡_, sym, ap, _∙_, subst}
 use mathlib.Core.Bool.{true, false}
@@ -10,8 +10,8 @@ use lib.Ieee.{Float, binary32, fits, ofBits, le, lt}
 use lib.Ieee.Positive.{num, den}
 use Rattle.rules.specs.Weights.{nought, halfUp, rounded}
 use Rattle.float_laws.proofs.Rounding.{capped, top, is-positive, asked, cut, cut-lt, halved, rounds-positive, rounds-big, rounds-none}
-use Rattle.yuv_support.proofs.weights.round_half_up.Statement.{statement}
-use Rattle.yuv_support.proofs.weights.round_half_up.Tie as tie
+use Rattle.weights.proofs.round_half_up.Statement.{statement}
+use Rattle.weights.proofs.round_half_up.Tie as tie
 
 held : (c : tie.Start) → T (fits binary32 (c .args .x))
 held c = subst T (sym (c .good .0 .1)) tt

@@ -1,4 +1,4 @@
-// The nine weights, first in 32-bit floats and then as whole numbers.
+// Carried over from src/yuv_support.rs: the nine weights, first in 32-bit floats and then as whole numbers.
 ghost use mathlib.Core.Path.{_≡_};
 ghost use mathlib.Core.Bool.{false};
 ghost use Prim.Native.Nat.{_≤_};
@@ -6,12 +6,12 @@ ghost use lib.Dec.{T};
 ghost use lib.IntN.{pos};
 ghost use lib.Ieee.{binary32, fits, lt};
 ghost use Rattle.rules.specs.Weights.{nought, pair, forward, rounded, integers, weightsOf};
-ghost use Rattle.yuv_support.specs.Held.{Held};
-use crate::matrices;
-use crate::ranges;
+ghost use Rattle.weights.specs.Held.{Held};
 use rules::CbCrForwardTransform;
 use rules::Settings;
 use rules::Weights;
+use yuv_support::matrices;
+use yuv_support::ranges;
 
 pub fn get_forward_transform(
     range_rgba: u32,

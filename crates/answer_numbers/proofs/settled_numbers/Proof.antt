@@ -1,9 +1,9 @@
--- `ayresokum::settled_numbers` meets its contract. Assumes nothing.
+-- `answer_numbers::settled_numbers` meets its contract. Assumes nothing.
 use borrow.Author.Needs.{needs}
 use mathlib.Core.Path.{sym, ap, _∙_}
-use Rattle.ayresokum.specs.Calls.{weightless, settledNumbers}
-use Rattle.ayresokum.proofs.settled_numbers.Statement.{statement}
-use Rattle.ayresokum.proofs.settled_numbers.Tie as tie
+use Rattle.answer_numbers.specs.AnswerNumbers.{weightless, settledNumbers}
+use Rattle.answer_numbers.proofs.settled_numbers.Statement.{statement}
+use Rattle.answer_numbers.proofs.settled_numbers.Tie as tie
 
 enum-known-answer : tie.Need-enum-known-answer
 enum-known-answer c = search needs

@@ -1,4 +1,4 @@
--- `yuv_support::weights::to_integers` meets its contract. Assumes nothing.
+-- `weights::to_integers` meets its contract. Assumes nothing.
 use borrow.Author.Needs.{needs}
 use mathlib.Core.Path.{_≡_, ap, _∙_}
 use Prim.Native.Nat.{ℕ, _^_}
@@ -10,8 +10,8 @@ use mir.Val.{SFits, toZ, ofZ}
 use mir.ValLaws.{toZ-ofZ}
 use Rattle.rules.specs.Weights as W
 use Rattle.integer_laws.proofs.Shifts.{one-shl}
-use Rattle.yuv_support.proofs.weights.to_integers.Statement.{statement}
-use Rattle.yuv_support.proofs.weights.to_integers.Tie as tie
+use Rattle.weights.proofs.to_integers.Statement.{statement}
+use Rattle.weights.proofs.to_integers.Tie as tie
 
 shl-nearest-u32-to-f32 : tie.Need-shl-nearest-u32-to-f32
 shl-nearest-u32-to-f32 c = search needs

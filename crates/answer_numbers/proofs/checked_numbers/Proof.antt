@@ -1,10 +1,10 @@
--- `ayresokum::checked_numbers` meets its contract. Assumes nothing.
+-- `answer_numbers::checked_numbers` meets its contract. Assumes nothing.
 use borrow.Author.Needs.{needs}
 use mathlib.Core.Path.{sym, ap, _∙_, subst}
-use Rattle.ayresokum.specs.Places.{Placed}
-use Rattle.ayresokum.specs.Calls.{told, checkedNumbers}
-use Rattle.ayresokum.proofs.checked_numbers.Statement.{statement}
-use Rattle.ayresokum.proofs.checked_numbers.Tie as tie
+use Rattle.answer_numbers.specs.Places.{Placed}
+use Rattle.answer_numbers.specs.AnswerNumbers.{told, checkedNumbers}
+use Rattle.answer_numbers.proofs.checked_numbers.Statement.{statement}
+use Rattle.answer_numbers.proofs.checked_numbers.Tie as tie
 
 enum-told : tie.Need-enum-told
 enum-told c = search needs
