@@ -3,9 +3,6 @@ ghost use mathlib.Core.Path.{_≡_};
 ghost use Prim.Native.Nat.{_≤_, _<_};
 ghost use Rattle.rules.specs.Blocks.{chromaWidth, chromaHeight};
 ghost use Rattle.blocks.specs.Tiles.{paired, leftOf, wideAt, secondOf, topOf, twoAt};
-
-pub mod mean;
-
 use rules::YuvChromaSubsampling;
 
 // Chroma elements in a row.

@@ -6,7 +6,7 @@ use Rattle.rules.specs.declared.Settings.{Settings}
 use Rattle.rules.specs.declared.Named.{Named}
 use Rattle.rules.specs.Ranges.{most}
 use Rattle.yuv_support.specs.Ranges.{chromaRange}
-use Rattle.fractions.specs.Bound.{boundOf}
+use Rattle.tolerance_bounds.specs.Bound.{boundOf}
 use Rattle.check_limits.specs.declared.Limit.{Limit}
 use Rattle.check_limits.specs.declared.BlockLimits.{BlockLimits}
 use Rattle.check_limits.specs.declared.SettingsLimits.{SettingsLimits}

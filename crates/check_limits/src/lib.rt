@@ -3,9 +3,8 @@
 ghost use mathlib.Core.Path.{_≡_};
 ghost use Prim.Native.Nat.{_+_, _≤_};
 ghost use Rattle.rule_laws.specs.Usable.{Reach};
-ghost use Rattle.fractions.specs.Bound.{Scale};
+ghost use Rattle.tolerance_bounds.specs.Bound.{Scale};
 ghost use Rattle.check_limits.specs.Limits.{LimitOf, BlockLimitsOf, LimitsOf, limitFor, ownLimit};
-use fractions::bound;
 use fractions::value;
 use rules::Named;
 use rules::Settings;
@@ -39,7 +38,7 @@ fn limit_of(precision: u32, m: u32, halves: u32, under: u64) -> Limit
 {
     Limit {
         under,
-        bound: bound::bound(precision, m, halves, under),
+        bound: tolerance_bounds::bound(precision, m, halves, under),
     }
 }
 

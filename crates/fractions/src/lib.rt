@@ -1,6 +1,5 @@
 // The test of one sample against its exact fraction, in 64 bits.
 pub mod block;
-pub mod bound;
 pub mod value;
 
 // The exact value bias + (plus − minus) / under.

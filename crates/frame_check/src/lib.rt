@@ -38,7 +38,7 @@ fn check_settled(
     ensures { λ r. ⌜ checkedAnswer r ≡ judged s k f (shown s f (now (source .entry))) (now (luma .entry)) (now (chroma .entry)) ⌝ }
 {
     let limits = check_limits::limits_of(s, k);
-    let in_luma = walks::walk_luma(s, k, limits, f, source, luma);
+    let in_luma = luma_walk::walk_luma(s, k, limits, f, source, luma);
     if let Search::At(row, element) = in_luma {
         let luma_place = Place {
             plane: 0,
@@ -47,7 +47,7 @@ fn check_settled(
         };
         return Checked::Wrong(luma_place);
     }
-    let in_chroma = walks::walk_chroma(s, k, limits, f, source, chroma);
+    let in_chroma = chroma_walk::walk_chroma(s, k, limits, f, source, chroma);
     if let Search::At(row, element) = in_chroma {
         let chroma_place = Place {
             plane: 1,

@@ -14,7 +14,7 @@ use Rattle.blocks.specs.Tiles.{tiles}
 use Rattle.formed_rows.specs.Formed.{isFormed}
 use Rattle.fractions.specs.declared.Exact.{Exact}
 use Rattle.fractions.specs.declared.Sums.{Sums}
-use Rattle.fractions.specs.Bound.{apart}
+use Rattle.tolerance_bounds.specs.Bound.{apart}
 use Rattle.fractions.specs.Sums.{sumsOf, blend, ownSum}
 use Rattle.fractions.proofs.Values.{parts-times, part-alone}
 use Rattle.check_limits.specs.declared.Limit.{Limit}

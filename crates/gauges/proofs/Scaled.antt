@@ -8,7 +8,7 @@ use lib.Dec.{leb}
 use borrow.Author.Tests.{leb-true, le-leb}
 use Rattle.rules.specs.declared.Settings.{Settings}
 use Rattle.rules.specs.Storage.{exchanged, stored}
-use Rattle.fractions.specs.Bound.{apart}
+use Rattle.tolerance_bounds.specs.Bound.{apart}
 use Rattle.formed_rows.specs.Formed.{isFormed}
 use Rattle.storage.proofs.PackingFactor.{factor-some, unpacked-is}
 use Rattle.gauges.specs.Gauges.{factorOf}

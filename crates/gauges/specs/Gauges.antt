@@ -8,7 +8,7 @@ use Rattle.rules.specs.declared.Named.{Named}
 use Rattle.rules.specs.Matrices.{kg}
 use Rattle.storage.specs.PackingFactor.{packingFactor}
 use Rattle.fractions.specs.declared.Sums.{Sums}
-use Rattle.fractions.specs.Bound.{apart}
+use Rattle.tolerance_bounds.specs.Bound.{apart}
 use Rattle.check_limits.specs.declared.Limit.{Limit}
 use Rattle.gauges.specs.declared.gauge.Shares.{Shares}
 use Rattle.gauges.specs.declared.gauge.Gauge.{Gauge}

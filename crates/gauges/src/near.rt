@@ -8,7 +8,6 @@ use crate::gauge::Gauge;
 use crate::gauge::Shares;
 use fractions::Sums;
 use fractions::block;
-use fractions::bound;
 use rules::Pixel;
 
 fn counted(share: u64, sum: u32) -> u64
@@ -31,7 +30,7 @@ fn word_near(g: Gauge, plus: u64, minus: u64, v: u16) -> bool
     requires { ⌜ (GaugeBounded g) × (plus ≤ 33000000000000000) × (minus ≤ 33000000000000000) ⌝ }
     ensures { λ r. ⌜ r ≡ wordNear g plus minus v ⌝ }
 {
-    bound::within((v as u64) * g.under + minus, g.start + plus, g.bound)
+    tolerance_bounds::within((v as u64) * g.under + minus, g.start + plus, g.bound)
 }
 
 // Whether a word passes as the luma of a pixel.

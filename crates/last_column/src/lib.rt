@@ -11,7 +11,6 @@ ghost use Rattle.plane_laws.specs.Rows.{Finished};
 ghost use Rattle.frames.specs.Rows.{rowPixel, Convertible};
 ghost use Rattle.last_column.specs.Words.{lumaWords, chromaWords};
 ghost use Rattle.last_column.specs.Columns.{evenColumns, elementsOver, evenElements};
-use blocks::mean;
 use frames::pixels;
 use rules::Pixel;
 use rules::Settings;
@@ -64,7 +63,7 @@ fn column_mean(
     let p = pixels::row_pixel(channels, upper, width, x);
     if two {
         let u = pixels::row_pixel(channels, lower, width, x);
-        return mean::mean_of_two(p, u);
+        return means::mean_of_two(p, u);
     }
     p
 }

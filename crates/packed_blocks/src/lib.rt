@@ -12,7 +12,6 @@ ghost use Rattle.frames.specs.Rows.{Convertible};
 ghost use Rattle.last_column.specs.Columns.{evenColumns, RowLengths};
 ghost use Rattle.packed_store.specs.Packed.{packedLumaRow};
 ghost use Rattle.packed_store.specs.Pairs.{PackedWritten};
-use blocks::mean;
 use frames::pixels;
 use joined_weights::frame_weights;
 use packed_store::put_luma;
@@ -50,7 +49,7 @@ pub fn block_loop(
         put_luma(s, w, joined, luma, x, p, q);
         let u = pixels::pixel_at(YuvSourceChannels::Rgb, lower, i);
         let v = pixels::pixel_at(YuvSourceChannels::Rgb, lower, i + n);
-        put_pair(s, w, joined, chroma, x, mean::mean_of_four(p, q, u, v));
+        put_pair(s, w, joined, chroma, x, means::mean_of_four(p, q, u, v));
         pair += 1;
     }
 }

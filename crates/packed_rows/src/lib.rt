@@ -10,7 +10,6 @@ ghost use Rattle.blocks.specs.Tiles.{paired};
 ghost use Rattle.frames.specs.Rows.{Convertible};
 ghost use Rattle.last_column.specs.Columns.{RowLengths};
 ghost use Rattle.packed_store.specs.Pairs.{PackedWritten};
-use blocks::mean;
 use frames::pixels;
 use joined_weights::frame_weights;
 use packed_store::put_luma;
@@ -73,7 +72,7 @@ pub fn paired_loop(
         let p = pixels::pixel_at(YuvSourceChannels::Rgb, rgba, i);
         let q = pixels::pixel_at(YuvSourceChannels::Rgb, rgba, i + n);
         put_luma(s, w, joined, luma, x, p, q);
-        put_pair(s, w, joined, chroma, x, mean::mean_of_two(p, q));
+        put_pair(s, w, joined, chroma, x, means::mean_of_two(p, q));
         x += 2;
         i += 2 * n;
     }

@@ -17,9 +17,9 @@ use Rattle.formed_rows.specs.Formed.{isFormed}
 use Rattle.fractions.specs.declared.Exact.{Exact}
 use Rattle.fractions.specs.declared.Sums.{Sums}
 use Rattle.fractions.specs.Exact.{fractionOf}
-use Rattle.fractions.specs.Bound.{boundOf}
+use Rattle.tolerance_bounds.specs.Bound.{boundOf}
 use Rattle.fractions.specs.Sums.{sumsOf, lumaBy, ownSum, chromaBy}
-use Rattle.fractions.proofs.Passes.{judged}
+use Rattle.tolerance_bounds.proofs.Passes.{judged}
 use Rattle.fractions.proofs.Values.{luma-of, chroma-of}
 use Rattle.check_limits.specs.declared.Limit.{Limit}
 use Rattle.check_limits.specs.declared.SettingsLimits.{SettingsLimits}

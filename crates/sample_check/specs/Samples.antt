@@ -18,7 +18,7 @@ use Rattle.rules.specs.Check.{right}
 use Rattle.blocks.specs.Tiles.{leftOf, wideAt, tiles}
 use Rattle.formed_rows.specs.Formed.{isFormed}
 use Rattle.fractions.specs.declared.Exact.{Exact}
-use Rattle.fractions.specs.Bound.{distance}
+use Rattle.tolerance_bounds.specs.Bound.{distance}
 use Rattle.frames.specs.Rows.{rowPixel}
 use Rattle.sample_check.specs.declared.sample.Tile.{Tile}
 

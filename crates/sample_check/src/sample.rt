@@ -12,7 +12,6 @@ use check_limits::SettingsLimits;
 use fractions::Exact;
 use fractions::Sums;
 use fractions::block;
-use fractions::bound;
 use fractions::value;
 use frames::pixels;
 use rules::Named;
@@ -35,7 +34,7 @@ fn near_by(s: Settings, bound: u64, x: Exact, v: u16) -> bool
 {
     let packing = s.packing;
     let endianness = s.endianness;
-    bound::within_bound(bound, x, storage::stored(packing, endianness, s.depth, v))
+    tolerance_bounds::within_bound(bound, x, storage::stored(packing, endianness, s.depth, v))
 }
 
 // Whether a word is well formed and its code within a bound of an exact value.

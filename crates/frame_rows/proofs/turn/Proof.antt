@@ -4,8 +4,8 @@ use mathlib.Core.Path.{subst⁻¹}
 use Prim.Native.Nat.{ℕ, _<_}
 use native.Mathlib.Omega.{arith}
 use Rattle.blocks.proofs.Tiles.{height-small, top-below}
-use Rattle.frame_rows.specs.Turns.{Turn}
-use Rattle.frame_rows.proofs.Turns.{next-in, ready-as, grown-one, grown-two}
+use Rattle.lent_rows.specs.Turns.{Turn}
+use Rattle.lent_rows.proofs.Turns.{next-in, ready-as, grown-one, grown-two}
 use Rattle.frame_rows.proofs.turn.Statement.{statement}
 use Rattle.frame_rows.proofs.turn.Tie as tie
 

@@ -3,7 +3,7 @@ use borrow.Author.Needs.{needs}
 use mathlib.Core.Path.{ap, _∙_}
 use Prim.Native.Nat.{ℕ}
 use lib.Dec.{leb}
-use Rattle.fractions.specs.Bound.{distance}
+use Rattle.tolerance_bounds.specs.Bound.{distance}
 use Rattle.sample_check.proofs.sample.near_by.Statement.{statement}
 use Rattle.sample_check.proofs.sample.near_by.Tie as tie
 
