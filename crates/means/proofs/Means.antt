@@ -1,4 +1,5 @@
 -- The mean of two and of four pixels, as code works it out. Assumes nothing.
+use mathlib.Core.Path.{_≡_}
 use mathlib.Core.List.{[], _∷_}
 use Prim.Native.Nat.{ℕ, _+_, _/_}
 use native.Mathlib.Omega.{arith}
