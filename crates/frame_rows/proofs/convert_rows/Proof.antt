@@ -11,7 +11,7 @@ use Rattle.plane_laws.proofs.Planes.{plane-none, length-plane}
 use Rattle.blocks.proofs.Tiles.{height-small}
 use Rattle.frames.specs.Tests.{Ready}
 use Rattle.lent_rows.specs.Turns.{rowsOver}
-use Rattle.frame_rows.proofs.Over.{over-none, over-all}
+use Rattle.lent_rows.proofs.Over.{over-none, over-all}
 use Rattle.frame_rows.proofs.convert_rows.Statement.{statement}
 use Rattle.frame_rows.proofs.convert_rows.Tie as tie
 
