@@ -165,18 +165,9 @@ def work_out(lines):
 
 
 def main():
-<<<<<<< HEAD
-    lines = open(sys.argv[1]).read().splitlines()
+    lines = [line for path in sys.argv[1:] for line in open(path).read().splitlines()]
     wrong = differing(lines, work_out(lines))
     print(f'{len(lines)} lines, {len(wrong)} differ')
-=======
-    lines = [line for path in sys.argv[1:] for line in open(path).read().splitlines()]
-    right = list(work_out(lines))
-    differ = [(a, b) for a, b in zip_longest(lines, right) if a != b]
-    for a, b in differ[:10]:
-        print(a, '\n should be', b)
-    print(f'{len(lines)} lines, {len(differ)} differ')
->>>>>>> d6a0b02 (The programs that check frames are two, run_checks and run_edges; each has its own output)
     names = [line.split()[0] for line in lines]
     print({name: names.count(name) for name in ('case', 'words', 'pair', 'left', 'unwritten', 'edges', 'faults', 'lost', 'block')})
     blocks = [[int(n) for n in line.split()[1:9]] for line in lines if line.startswith('block ')]
