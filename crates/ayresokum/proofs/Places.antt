@@ -1,7 +1,7 @@
 -- The places that check names are small: they lie in a frame that no refusal met. Assumes nothing.
 use Prim.Native.Nat.{ℕ, _≤_}
 use mathlib.Core.Path.{_≡_, refl, subst⁻¹}
-use mathlib.Core.List.{List, []}
+use mathlib.Core.List.{List}
 use native.Mathlib.Omega.{arith}
 use lib.Dec.{lit≤}
 use lib.IntN.{pos, natAbs}
@@ -21,7 +21,7 @@ use Rattle.rules.specs.Search.{firstFailing}
 use Rattle.rules.specs.Answers.{Answer, given, refused, placeValues, checkedAnswer}
 use Rattle.rules.specs.Settle.{settleLines}
 use Rattle.rules.specs.Frames.{shown}
-use Rattle.rules.specs.Check.{lumaTest, chromaTest, checkLines, named, judgedBy, judgement, check}
+use Rattle.rules.specs.Check.{lumaTest, chromaTest, checkLines, firstPlace, judgedBy, judgement, check}
 use Rattle.rule_laws.proofs.Refusals.{parted, passed}
 use Rattle.rule_laws.proofs.Answers.{gave}
 use Rattle.plane_laws.proofs.Searches.{found-wrong}
@@ -51,7 +51,7 @@ module _ (s : Settings) (f : Frame) (source luma chroma : List ℕ) where
     where
       by : (y : Search) → firstFailing (lumaTest s k f (shown s f source) luma) (f .width) (f .height) ≡ y →
           (c : Search) → firstFailing (chromaTest s k f (shown s f source) chroma) (chromaWidth (s .subsampling) (f .width)) (chromaHeight (s .subsampling) (f .height)) ≡ c →
-          Small (named 0 y (named 1 c (given [])))
+          Small (firstPlace y c)
       by Nothing p Nothing q = (lit≤ tt, lit≤ tt, lit≤ tt)
       by Nothing p (At row e) q =
           let w = found-wrong (chromaTest s k f (shown s f source) chroma) (chromaWidth (s .subsampling) (f .width)) (chromaHeight (s .subsampling) (f .height)) row e q in

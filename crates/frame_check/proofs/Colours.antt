@@ -17,9 +17,9 @@ use Rattle.rules.specs.Matrices.{matrixOf}
 use Rattle.rules.specs.Blocks.{chromaWidth, chromaHeight}
 use Rattle.rules.specs.Refusals.{Line, first}
 use Rattle.rules.specs.Search.{firstFailing}
-use Rattle.rules.specs.Answers.{given, answer, checkedAnswer}
+use Rattle.rules.specs.Answers.{answer, checkedAnswer}
 use Rattle.rules.specs.Settle.{settleLines}
-use Rattle.rules.specs.Check.{right, lumaTest, chromaTest, customLine, named, judged, judgedBy, check}
+use Rattle.rules.specs.Check.{right, lumaTest, chromaTest, customLine, firstPlace, judged, judgedBy, check}
 use Rattle.rule_laws.proofs.Answers.{one-checked}
 use Rattle.plane_laws.proofs.Searches.{same-search}
 use Rattle.frames.specs.Sources.{SameColours, SamePicture}
@@ -42,7 +42,7 @@ module _ (s : Settings) (f : Frame) (px px′ : Picture) (h : SamePicture (f .wi
       (same-block f px px′ h (s .subsampling) row e b l))
 
   same-judged : (m : Matrix) → judgedBy m s f px luma chroma ≡ judgedBy m s f px′ luma chroma
-  same-judged (Tabled k) = λ i. named 0 (same-luma k i) (named 1 (same-chroma k i) (given []))
+  same-judged (Tabled k) = λ i. firstPlace (same-luma k i) (same-chroma k i)
   same-judged (Own p) = refl
 
 -- THE THEOREM: sources that differ only in alpha and in padding get the same answer

@@ -13,7 +13,7 @@ use Rattle.rules.specs.Matrices.{matrixOf}
 use Rattle.rules.specs.Refusals.{Line}
 use Rattle.rules.specs.Answers.{Answer, given, answer, placeValues}
 use Rattle.rules.specs.Frames.{shown}
-use Rattle.rules.specs.Check.{named, judged, judgedBy, judgement}
+use Rattle.rules.specs.Check.{firstPlace, judged, judgedBy, judgement}
 
 -- one line for another
 pub carried : {a : Answer} {k l : Line} (after : Answer) → k ≡ l → a ≡ answer k after → a ≡ answer l after
@@ -26,12 +26,12 @@ by-row s f source luma chroma k e = sym (ap (λ (m : Matrix). judgedBy m s f (sh
 
 -- ---- what the two walks come to
 
-pub luma-wrong : (after : Answer) {y : Search} {row element : ℕ} → y ≡ At row element → given (placeValues 0 row element) ≡ named 0 y after
-luma-wrong after e = sym (ap (λ (x : Search). named 0 x after) e)
+pub luma-wrong : (c : Search) {y : Search} {row element : ℕ} → y ≡ At row element → given (placeValues 0 row element) ≡ firstPlace y c
+luma-wrong c e = sym (ap (λ (x : Search). firstPlace x c) e)
 
 module _ {y c : Search} where
-  pub chroma-wrong : {row element : ℕ} → y ≡ Nothing → c ≡ At row element → given (placeValues 1 row element) ≡ named 0 y (named 1 c (given []))
-  chroma-wrong e f = sym (λ i. named 0 (e i) (named 1 (f i) (given [])))
+  pub chroma-wrong : {row element : ℕ} → y ≡ Nothing → c ≡ At row element → given (placeValues 1 row element) ≡ firstPlace y c
+  chroma-wrong e f = sym (λ i. firstPlace (e i) (f i))
 
-  pub both-right : y ≡ Nothing → c ≡ Nothing → given [] ≡ named 0 y (named 1 c (given []))
-  both-right e f = sym (λ i. named 0 (e i) (named 1 (f i) (given [])))
+  pub both-right : y ≡ Nothing → c ≡ Nothing → given [] ≡ firstPlace y c
+  both-right e f = sym (λ i. firstPlace (e i) (f i))

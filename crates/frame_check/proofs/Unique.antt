@@ -23,7 +23,7 @@ use Rattle.rules.specs.Search.{Clean, FirstWrong, firstFailing}
 use Rattle.rules.specs.Answers.{Answer, given, refused, answer, placeValues, checkedAnswer}
 use Rattle.rules.specs.Settle.{settleLines}
 use Rattle.rules.specs.Frames.{shown}
-use Rattle.rules.specs.Check.{lumaTest, chromaTest, isCustom, checkLines, named, judged, judgedBy, judgement, check}
+use Rattle.rules.specs.Check.{lumaTest, chromaTest, isCustom, checkLines, firstPlace, judged, judgedBy, judgement, check}
 use Rattle.rule_laws.proofs.Refusals.{parted, passed-by}
 use Rattle.rule_laws.proofs.Answers.{one-checked}
 use Rattle.plane_laws.proofs.Searches.{clean-none, none-clean, first-found, found-wrong}
@@ -41,29 +41,29 @@ howMany (given v) = length v
 howMany (refused n v) = 0
 
 module _ (y c : Search) where
-  nothing-named : named 0 y (named 1 c (given [])) ≡ given [] → (y ≡ Nothing) × (c ≡ Nothing)
+  nothing-named : firstPlace y c ≡ given [] → (y ≡ Nothing) × (c ≡ Nothing)
   unfolding howMany
   nothing-named e = go y c (ap howMany e)
     where
-      go : (y c : Search) → howMany (named 0 y (named 1 c (given []))) ≡ 0 → (y ≡ Nothing) × (c ≡ Nothing)
+      go : (y c : Search) → howMany (firstPlace y c) ≡ 0 → (y ≡ Nothing) × (c ≡ Nothing)
       go Nothing Nothing e = (refl, refl)
       go Nothing (At r x) e = absurd (omega arith)
       go (At r x) c e = absurd (omega arith)
 
-  luma-named : (row element : ℕ) → named 0 y (named 1 c (given [])) ≡ given (placeValues 0 row element) → y ≡ At row element
+  luma-named : (row element : ℕ) → firstPlace y c ≡ given (placeValues 0 row element) → y ≡ At row element
   unfolding howMany valueIn
   luma-named row element e = go y c (ap howMany e) (ap (valueIn 0) e) (ap (valueIn 1) e) (ap (valueIn 2) e)
     where
-      go : (y c : Search) → howMany (named 0 y (named 1 c (given []))) ≡ 3 → valueIn 0 (named 0 y (named 1 c (given []))) ≡ 0 → valueIn 1 (named 0 y (named 1 c (given []))) ≡ row → valueIn 2 (named 0 y (named 1 c (given []))) ≡ element → y ≡ At row element
+      go : (y c : Search) → howMany (firstPlace y c) ≡ 3 → valueIn 0 (firstPlace y c) ≡ 0 → valueIn 1 (firstPlace y c) ≡ row → valueIn 2 (firstPlace y c) ≡ element → y ≡ At row element
       go Nothing Nothing n p r x = absurd (omega arith)
       go Nothing (At a b) n p r x = absurd (omega arith)
       go (At a b) c n p r x = λ i. At (r i) (x i)
 
-  chroma-named : (row element : ℕ) → named 0 y (named 1 c (given [])) ≡ given (placeValues 1 row element) → (y ≡ Nothing) × (c ≡ At row element)
+  chroma-named : (row element : ℕ) → firstPlace y c ≡ given (placeValues 1 row element) → (y ≡ Nothing) × (c ≡ At row element)
   unfolding howMany valueIn
   chroma-named row element e = go y c (ap howMany e) (ap (valueIn 0) e) (ap (valueIn 1) e) (ap (valueIn 2) e)
     where
-      go : (y c : Search) → howMany (named 0 y (named 1 c (given []))) ≡ 3 → valueIn 0 (named 0 y (named 1 c (given []))) ≡ 1 → valueIn 1 (named 0 y (named 1 c (given []))) ≡ row → valueIn 2 (named 0 y (named 1 c (given []))) ≡ element → (y ≡ Nothing) × (c ≡ At row element)
+      go : (y c : Search) → howMany (firstPlace y c) ≡ 3 → valueIn 0 (firstPlace y c) ≡ 1 → valueIn 1 (firstPlace y c) ≡ row → valueIn 2 (firstPlace y c) ≡ element → (y ≡ Nothing) × (c ≡ At row element)
       go Nothing Nothing n p r x = absurd (omega arith)
       go Nothing (At a b) n p r x = (refl, λ i. At (r i) (x i))
       go (At a b) c n p r x = absurd (omega arith)
@@ -105,7 +105,7 @@ module _ (s : Settings) (f : Frame) (source luma chroma : List ℕ) where
         ↔ FirstWrong (lumaTest s k f (shown s f source) luma) (f .width) (f .height) row element
     luma-wrong-iff row element = (
       λ a. found-wrong _ _ _ _ _ (luma-named inLuma inChroma row element (sym where-passed ∙ a)),
-      λ w. where-passed ∙ sym (luma-wrong (named 1 inChroma (given [])) (first-found _ _ _ _ _ w)),
+      λ w. where-passed ∙ sym (luma-wrong inChroma (first-found _ _ _ _ _ w)),
     )
 
     -- a sample of chroma is named exactly when luma is clean and it is chroma's first wrong one
@@ -119,7 +119,7 @@ module _ (s : Settings) (f : Frame) (source luma chroma : List ℕ) where
   -- ---- and a refusal is given exactly when it is the first that applies
 
   -- by a row of the table of matrices nothing is refused
-  unrefused : (y c : Search) (n : ℕ) (v : List ℤ) → named 0 y (named 1 c (given [])) ≡ refused n v → ⊥
+  unrefused : (y c : Search) (n : ℕ) (v : List ℤ) → firstPlace y c ≡ refused n v → ⊥
   unrefused Nothing Nothing n v e = let z : _≡_ {A = ℕ} 0 1 = cc in omega arith
   unrefused Nothing (At a b) n v e = let z : _≡_ {A = ℕ} 0 1 = cc in omega arith
   unrefused (At a b) c n v e = let z : _≡_ {A = ℕ} 0 1 = cc in omega arith

@@ -66,17 +66,17 @@ customLine s = line 6 (isCustom (matrixOf (s .matrix)))
 abbrev pub checkLines : Settings → Frame → List ℕ → List ℕ → List ℕ → List Line
 checkLines s f source luma chroma = settleLines s ++ (customLine s ∷ frameLines s f source (length luma) (length chroma))
 
--- a wrong sample of a plane is named; where there is none, what comes after decides
-abbrev pub named : ℕ → Search → Answer → Answer
-named plane Nothing after = after
-named plane (At row element) after = given (placeValues plane row element)
+-- the first wrong sample of luma, or else of chroma, or that there is none
+abbrev pub firstPlace : Search → Search → Answer
+firstPlace (At row element) c = given (placeValues 0 row element)
+firstPlace Nothing (At row element) = given (placeValues 1 row element)
+firstPlace Nothing Nothing = given []
 
 -- "The check goes through luma row by row, then chroma element by element, and leaves the walk at the first wrong sample"
 abbrev pub judged : Settings → Named → Frame → Picture → List ℕ → List ℕ → Answer
 judged s k f px luma chroma =
-    named 0 (firstFailing (lumaTest s k f px luma) (f .width) (f .height))
-    (named 1 (firstFailing (chromaTest s k f px chroma) (chromaWidth (s .subsampling) (f .width)) (chromaHeight (s .subsampling) (f .height)))
-    (given []))
+    firstPlace (firstFailing (lumaTest s k f px luma) (f .width) (f .height))
+    (firstFailing (chromaTest s k f px chroma) (chromaWidth (s .subsampling) (f .width)) (chromaHeight (s .subsampling) (f .height)))
 
 -- the planes are judged by a row of the table of matrices; a custom matrix has none, and 6 refuses it
 abbrev pub judgedBy : Matrix → Settings → Frame → Picture → List ℕ → List ℕ → Answer
