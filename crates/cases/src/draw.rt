@@ -12,8 +12,11 @@ fn next(x: u32) -> u32
     (x * 75 + 74) % 65537
 }
 
+// A buffer of every program: a case uses the first elements, as many as its length for that buffer says.
+pub type Room = [u16; 65540];
+
 // A buffer filled with one number.
-pub fn room(v: u16) -> [u16; 65540]
+pub fn room(v: u16) -> Room
     ensures { λ r. ⌜ 65540 ≡ length r ⌝ }
 {
     [v; 65540]
@@ -45,7 +48,7 @@ fn sample_of(m: u32, x: u32) -> u16
 const ROW: [u16; 9] = [1023, 0, 0, 0, 0, 1023, 1023, 1023, 1023];
 
 // Document 01's row again and again.
-fn rows() -> [u16; 65540]
+fn rows() -> Room
     ensures { λ r. ⌜ 65540 ≡ length r ⌝ }
 {
     let mut source = room(0);
@@ -58,7 +61,7 @@ fn rows() -> [u16; 65540]
 }
 
 // Samples of a depth, drawn from a sequence.
-fn samples(depth: u32, seed: u32) -> [u16; 65540]
+fn samples(depth: u32, seed: u32) -> Room
     ensures { λ r. ⌜ 65540 ≡ length r ⌝ }
 {
     let m = most_of(depth);
@@ -73,7 +76,7 @@ fn samples(depth: u32, seed: u32) -> [u16; 65540]
     source
 }
 
-fn drawn(c: Case) -> [u16; 65540]
+fn drawn(c: Case) -> Room
     ensures { λ r. ⌜ 65540 ≡ length r ⌝ }
 {
     if c.seed == 0 {
@@ -83,7 +86,7 @@ fn drawn(c: Case) -> [u16; 65540]
 }
 
 // The samples that a case asks for, with one of them put at an index, where there is one.
-pub fn source_of(c: Case) -> [u16; 65540]
+pub fn source_of(c: Case) -> Room
     ensures { λ r. ⌜ 65540 ≡ length r ⌝ }
 {
     let at = c.at;

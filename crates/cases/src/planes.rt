@@ -2,21 +2,22 @@
 ghost use mathlib.Core.Path.{_≡_};
 ghost use Prim.Native.Nat.{_<_, _≤_};
 ghost use lib.ListN.{length, getD};
+use crate::draw::Room;
 
 // An element changed, where there is one.
-pub fn put(plane: &mut [u16], at: usize, v: u16)
+pub fn put(plane: &mut Room, at: usize, v: u16)
     ensures { λ r. ⌜ length (now (plane .exit)) ≡ length (now (plane .entry)) ⌝ }
 {
-    if at < plane.len() {
+    if at < 65540 {
         plane[at] = v;
     }
 }
 
 // An element, or 0 where there is none.
-pub fn get(plane: &[u16], at: usize) -> u16
-    ensures { λ r. ⌜ (at < length (now (plane .entry)) → r ≡ getD (now (plane .entry)) at 0) ⌝ }
+pub fn get(plane: &Room, at: usize) -> u16
+    ensures { λ r. ⌜ (at < 65540 → r ≡ getD (now (plane .entry)) at 0) ⌝ }
 {
-    if at < plane.len() {
+    if at < 65540 {
         return plane[at];
     }
     0

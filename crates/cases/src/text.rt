@@ -3,6 +3,8 @@ ghost use mathlib.Core.Path.{_≡_};
 ghost use Prim.Native.Nat.{_≤_, _<_};
 ghost use lib.ListN.{length};
 use crate::case::Case;
+use crate::draw::Room;
+use crate::draw::within_room;
 use answer_numbers::CheckedNumbers;
 use libc::STDOUT_FILENO;
 
@@ -27,6 +29,10 @@ pub fn line(name: &[u8], numbers: &[usize]) -> usize
     }
     put(b"\n");
     i
+}
+
+fn wide(v: u16) -> usize {
+    v as usize
 }
 
 // A number of 32 bits.
@@ -86,35 +92,48 @@ fn mixed(sum: u32, v: u16) -> u32
     (sum * 31 + (v as u32) + 1) % 65521
 }
 
-fn checksum(plane: &[u16]) -> u32 {
+fn checksum(plane: &Room, length: usize) -> u32
+    requires { ⌜ length ≤ 65540 ⌝ }
+{
     let mut sum = 0;
     let mut i = 0;
-    while i < plane.len() {
+    while i < length {
         sum = mixed(sum, plane[i]);
         i += 1;
     }
     sum
 }
 
-fn put_elements(plane: &[u16]) {
+fn put_elements(plane: &Room, length: usize)
+    requires { ⌜ length ≤ 65540 ⌝ }
+{
     let mut i = 0;
-    while i < plane.len() {
-        put_number(plane[i] as usize);
+    while i < length {
+        put_number(wide(plane[i]));
         i += 1;
     }
 }
 
-// A plane whole, or its checksum where it is long.
-pub fn plane(name: &[u8], plane: &[u16]) -> usize
-    ensures { λ r. ⌜ r ≡ length (now (plane .entry)) ⌝ }
+// The first elements of a plane, or their checksum where they are many.
+fn plane(name: &[u8], plane: &Room, length: usize)
+    requires { ⌜ length ≤ 65540 ⌝ }
 {
     put(name);
-    if plane.len() <= 256 {
-        put_elements(plane);
+    if length <= 256 {
+        put_elements(plane, length);
     } else {
         put(b" sum");
-        put_number(checksum(plane) as usize);
+        put_number(small(checksum(plane, length)));
     }
     put(b"\n");
-    plane.len()
+}
+
+// Both planes of a case; hands back how many elements of luma there are.
+pub fn planes(c: Case, luma: &Room, chroma: &Room) -> usize
+    ensures { λ r. ⌜ r ≤ 65540 ⌝ }
+{
+    let m = within_room(c.luma);
+    plane(b"luma", luma, m);
+    plane(b"chroma", chroma, within_room(c.chroma));
+    m
 }

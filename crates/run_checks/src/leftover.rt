@@ -1,9 +1,10 @@
 // Rows left over from another frame, 5×4 both: each row of each plane alone, and each with all rows below it.
 ghost use Prim.Native.Nat.{_≤_};
-use crate::calls;
 use crate::planes;
+use cases::calls;
 use cases::case::Case;
 use cases::draw;
+use cases::draw::Room;
 use cases::planes::start;
 use cases::text;
 
@@ -15,7 +16,7 @@ struct Rows {
 }
 
 // Lays rows of the other frame's planes over the planes.
-fn lay(c: Case, luma: &mut [u16], chroma: &mut [u16], old_luma: &[u16], old_chroma: &[u16], r: Rows)
+fn lay(c: Case, luma: &mut Room, chroma: &mut Room, old_luma: &Room, old_chroma: &Room, r: Rows)
     requires { ⌜ (r .first ≤ 4) × (r .count ≤ 4) ⌝ }
 {
     let end = r.first + r.count;
@@ -40,11 +41,11 @@ fn lay(c: Case, luma: &mut [u16], chroma: &mut [u16], old_luma: &[u16], old_chro
 
 fn try_rows(
     c: Case,
-    source: &[u16],
-    luma: &mut [u16],
-    chroma: &mut [u16],
-    old_luma: &[u16],
-    old_chroma: &[u16],
+    source: &Room,
+    luma: &mut Room,
+    chroma: &mut Room,
+    old_luma: &Room,
+    old_chroma: &Room,
     r: Rows,
 )
     requires { ⌜ (r .first ≤ 4) × (r .count ≤ 4) ⌝ }
@@ -52,17 +53,17 @@ fn try_rows(
     calls::convert(c, source, luma, chroma);
     lay(c, luma, chroma, old_luma, old_chroma, r);
     text::line(b"left", &[r.plane, r.first, r.count]);
-    text::answer(calls::check(c, source, luma, chroma));
+    calls::check_and_put(c, source, luma, chroma);
 }
 
 // Each row of a plane alone, and with all rows below it.
 fn try_plane(
     c: Case,
-    source: &[u16],
-    luma: &mut [u16],
-    chroma: &mut [u16],
-    old_luma: &[u16],
-    old_chroma: &[u16],
+    source: &Room,
+    luma: &mut Room,
+    chroma: &mut Room,
+    old_luma: &Room,
+    old_chroma: &Room,
     plane: usize,
 ) {
     for row in 0..4 {
@@ -84,13 +85,13 @@ fn try_plane(
 // Converts the other frame, then tries both planes.
 fn try_planes(
     c: Case,
-    source: &[u16],
-    luma: &mut [u16],
-    chroma: &mut [u16],
+    source: &Room,
+    luma: &mut Room,
+    chroma: &mut Room,
     other: Case,
-    other_source: &[u16],
-    old_luma: &mut [u16],
-    old_chroma: &mut [u16],
+    other_source: &Room,
+    old_luma: &mut Room,
+    old_chroma: &mut Room,
 ) {
     calls::convert(other, other_source, old_luma, old_chroma);
     try_plane(c, source, luma, chroma, old_luma, old_chroma, 0);
@@ -109,17 +110,14 @@ pub(crate) fn run(c: Case, seed: u32) {
     let mut chroma = draw::room(7);
     let mut old_luma = draw::room(7);
     let mut old_chroma = draw::room(7);
-    let n = draw::within_room(c.source);
-    let m = draw::within_room(c.luma);
-    let k = draw::within_room(c.chroma);
     try_planes(
         c,
-        &source[..n],
-        &mut luma[..m],
-        &mut chroma[..k],
+        &source,
+        &mut luma,
+        &mut chroma,
         other,
-        &other_source[..n],
-        &mut old_luma[..m],
-        &mut old_chroma[..k],
+        &other_source,
+        &mut old_luma,
+        &mut old_chroma,
     );
 }

@@ -4,11 +4,9 @@ ghost use Prim.Native.Nat.{_<_};
 use cases::case;
 use cases::case::Case;
 
-mod calls;
 mod leftover;
 mod pairs;
 mod planes;
-mod spot;
 mod unwritten;
 mod words;
 

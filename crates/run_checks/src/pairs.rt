@@ -1,14 +1,15 @@
 // Every one and every two elements of a converted frame, padding included, with their highest bits changed: the first wrong one is
 // named, and padding is not judged.
-use crate::calls;
 use crate::planes;
+use cases::calls;
 use cases::case::Case;
 use cases::draw;
+use cases::draw::Room;
 use cases::text;
 
 // An element of the two planes laid end to end.
-fn flip(luma: &mut [u16], chroma: &mut [u16], at: usize) {
-    let in_luma = luma.len();
+fn flip(c: Case, luma: &mut Room, chroma: &mut Room, at: usize) {
+    let in_luma = c.luma;
     if at < in_luma {
         planes::flip(luma, at);
     } else {
@@ -17,22 +18,22 @@ fn flip(luma: &mut [u16], chroma: &mut [u16], at: usize) {
 }
 
 // The second of two elements, where it is not the first again.
-fn flip_second(luma: &mut [u16], chroma: &mut [u16], a: usize, b: usize) {
+fn flip_second(c: Case, luma: &mut Room, chroma: &mut Room, a: usize, b: usize) {
     if a != b {
-        flip(luma, chroma, b);
+        flip(c, luma, chroma, b);
     }
 }
 
-fn try_pair(c: Case, source: &[u16], luma: &mut [u16], chroma: &mut [u16], a: usize, b: usize) {
+fn try_pair(c: Case, source: &Room, luma: &mut Room, chroma: &mut Room, a: usize, b: usize) {
     calls::convert(c, source, luma, chroma);
-    flip(luma, chroma, a);
-    flip_second(luma, chroma, a, b);
+    flip(c, luma, chroma, a);
+    flip_second(c, luma, chroma, a, b);
     text::line(b"pair", &[a, b]);
-    text::answer(calls::check(c, source, luma, chroma));
+    calls::check_and_put(c, source, luma, chroma);
 }
 
 // A frame of 3×2 has at most 22 elements.
-fn try_pairs(c: Case, source: &[u16], luma: &mut [u16], chroma: &mut [u16], count: usize) {
+fn try_pairs(c: Case, source: &Room, luma: &mut Room, chroma: &mut Room, count: usize) {
     for a in 0..count {
         for b in a..count {
             try_pair(c, source, luma, chroma, a, b);
@@ -45,8 +46,6 @@ pub(crate) fn run(c: Case) {
     let source = draw::source_of(c);
     let mut luma = draw::room(7);
     let mut chroma = draw::room(7);
-    let n = draw::within_room(c.source);
-    let m = draw::within_room(c.luma);
-    let k = draw::within_room(c.chroma);
-    try_pairs(c, &source[..n], &mut luma[..m], &mut chroma[..k], m + k);
+    let count = draw::within_room(c.luma) + draw::within_room(c.chroma);
+    try_pairs(c, &source, &mut luma, &mut chroma, count);
 }

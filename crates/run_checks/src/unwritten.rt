@@ -1,5 +1,5 @@
 // Checks planes that nothing was written to, with settings and frames that are refused: each refusal alone, then two at once.
-use crate::calls;
+use cases::calls;
 use cases::case;
 use cases::case::Case;
 use cases::draw;
@@ -10,11 +10,8 @@ fn check(c: Case) {
     let source = draw::source_of(c);
     let luma = draw::room(7);
     let chroma = draw::room(7);
-    let n = draw::within_room(c.source);
-    let m = draw::within_room(c.luma);
-    let k = draw::within_room(c.chroma);
     text::line(b"unwritten", &[]);
-    text::answer(calls::check(c, &source[..n], &luma[..m], &chroma[..k]));
+    calls::check_and_put(c, &source, &luma, &chroma);
 }
 
 fn check_settings(depth: u32, precision: u32, matrix: u32, width: usize) {

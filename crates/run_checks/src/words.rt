@@ -1,13 +1,14 @@
 // Each of the 65,536 words in turn at one place of a converted frame of 3×3 pixels with one element of padding in each row: how
 // many are accepted, the first and the last of them, and for how many the check names that very place.
-use crate::calls;
-use crate::spot::Spot;
-use crate::spot::check_word;
-use crate::spot::names;
-use crate::spot::spot_at;
 use answer_numbers::CheckedNumbers;
+use cases::calls;
 use cases::case::Case;
 use cases::draw;
+use cases::draw::Room;
+use cases::spot::Spot;
+use cases::spot::check_word;
+use cases::spot::named;
+use cases::spot::spot_at;
 use cases::text;
 
 struct Tally {
@@ -24,7 +25,7 @@ fn more(n: usize) -> usize {
 // The tally with one more word.
 fn tallied(tally: Tally, spot: Spot, t: CheckedNumbers, v: usize) -> Tally {
     let mut next = tally;
-    if names(t, spot) {
+    if named(t, spot) == 1 {
         next.named = more(next.named);
     }
     if t.refusal == 0 && t.wrong == 0 {
@@ -37,7 +38,7 @@ fn tallied(tally: Tally, spot: Spot, t: CheckedNumbers, v: usize) -> Tally {
     next
 }
 
-fn try_words(c: Case, source: &[u16], luma: &mut [u16], chroma: &mut [u16], spot: Spot) {
+fn try_words(c: Case, source: &Room, luma: &mut Room, chroma: &mut Room, spot: Spot) {
     calls::convert(c, source, luma, chroma);
     let mut tally = Tally {
         accepted: 0,
@@ -82,7 +83,7 @@ fn spot_of(subsampling: u32, n: usize) -> Spot {
     }
 }
 
-fn try_spots(c: Case, source: &[u16], luma: &mut [u16], chroma: &mut [u16]) {
+fn try_spots(c: Case, source: &Room, luma: &mut Room, chroma: &mut Room) {
     for n in 0..4 {
         try_words(c, source, luma, chroma, spot_of(c.subsampling, n));
     }
@@ -93,8 +94,5 @@ pub(crate) fn run(c: Case) {
     let source = draw::source_of(c);
     let mut luma = draw::room(7);
     let mut chroma = draw::room(7);
-    let n = draw::within_room(c.source);
-    let m = draw::within_room(c.luma);
-    let k = draw::within_room(c.chroma);
-    try_spots(c, &source[..n], &mut luma[..m], &mut chroma[..k]);
+    try_spots(c, &source, &mut luma, &mut chroma);
 }

@@ -1,15 +1,16 @@
 // One frame as the published loops leave it.
 ghost use Prim.Native.Nat.{_≤_};
-use cases::case;
+use cases::calls;
 use cases::case::Case;
 use cases::draw;
+use cases::draw::Room;
 use cases::planes::get;
 use cases::planes::put;
 use cases::planes::start;
 use cases::text;
 
 // The fault in one lower row: its last luma is stored at its first element, and the last keeps its old value.
-fn spoil_row(luma: &mut [u16], from: usize, last: usize)
+fn spoil_row(luma: &mut Room, from: usize, last: usize)
     requires { ⌜ (from ≤ 524288) × (last ≤ 8) ⌝ }
 {
     let at = from + last;
@@ -19,7 +20,7 @@ fn spoil_row(luma: &mut [u16], from: usize, last: usize)
 }
 
 // The second row of a pair, where there is one.
-fn spoil_pair(luma: &mut [u16], stride: usize, height: usize, last: usize, pair: usize)
+fn spoil_pair(luma: &mut Room, stride: usize, height: usize, last: usize, pair: usize)
     requires { ⌜ (last ≤ 8) × (pair ≤ 3) ⌝ }
 {
     let row = pair * 2 + 1;
@@ -29,7 +30,7 @@ fn spoil_pair(luma: &mut [u16], stride: usize, height: usize, last: usize, pair:
 }
 
 // The second row of each pair, in frames of at most 8 rows.
-fn spoil_pairs(luma: &mut [u16], stride: usize, height: usize, last: usize)
+fn spoil_pairs(luma: &mut Room, stride: usize, height: usize, last: usize)
     requires { ⌜ last ≤ 8 ⌝ }
 {
     for pair in 0..4 {
@@ -38,7 +39,7 @@ fn spoil_pairs(luma: &mut [u16], stride: usize, height: usize, last: usize)
 }
 
 // The named fault: at 4:2:0 and odd width, in every lower row of a pair.
-fn spoil(c: Case, luma: &mut [u16]) {
+fn spoil(c: Case, luma: &mut Room) {
     let width = c.width;
     if c.subsampling != 0 {
         return;
@@ -55,22 +56,15 @@ fn spoil(c: Case, luma: &mut [u16]) {
     spoil_pairs(luma, c.luma_stride, c.height, width - 1);
 }
 
-fn put_planes(c: Case, luma: &mut [u16], chroma: &[u16]) {
+fn put_planes(c: Case, luma: &mut Room, chroma: &Room) {
     spoil(c, luma);
     text::case(c);
-    text::plane(b"luma", luma);
-    text::plane(b"chroma", chroma);
+    text::planes(c, luma, chroma);
 }
 
 // Frames that are refused are left out, since the crate refuses none of them.
-fn convert_and_put(c: Case, source: &[u16], luma: &mut [u16], chroma: &mut [u16]) -> u32 {
-    let number = ayresokum::ayresokum_convert(
-        case::settings_of(c),
-        case::frame_of(c),
-        source,
-        luma,
-        chroma,
-    );
+fn convert_and_put(c: Case, source: &Room, luma: &mut Room, chroma: &mut Room) -> u32 {
+    let number = calls::convert(c, source, luma, chroma);
     if number == 0 {
         put_planes(c, luma, chroma);
     }
@@ -82,8 +76,5 @@ pub(crate) fn run(c: Case) -> u32 {
     let source = draw::source_of(c);
     let mut luma = draw::room(7);
     let mut chroma = draw::room(7);
-    let n = draw::within_room(c.source);
-    let m = draw::within_room(c.luma);
-    let k = draw::within_room(c.chroma);
-    convert_and_put(c, &source[..n], &mut luma[..m], &mut chroma[..k])
+    convert_and_put(c, &source, &mut luma, &mut chroma)
 }

@@ -1,13 +1,14 @@
 // The codes that are accepted at a place: from the stored one up and down as far as they go, and whether the check names that very
 // place at the codes just beyond.
 ghost use Prim.Native.Nat.{_≤_, _<_};
-use crate::spot::Spot;
-use crate::spot::check_word;
-use crate::spot::get_word;
-use crate::spot::names;
-use crate::spot::put_word;
 use answer_numbers::CheckedNumbers;
 use cases::case::Case;
+use cases::draw::Room;
+use cases::spot::Spot;
+use cases::spot::check_word;
+use cases::spot::get_word;
+use cases::spot::named;
+use cases::spot::put_word;
 
 // The lowest and the highest code, and at how many of the two just beyond them the place is named.
 pub(crate) struct Accepted {
@@ -85,16 +86,6 @@ fn is_accepted(t: CheckedNumbers) -> bool {
     t.refusal == 0 && t.wrong == 0
 }
 
-// 1 where an answer names a place, 0 where not.
-fn named(t: CheckedNumbers, spot: Spot) -> usize
-    ensures { λ r. ⌜ r ≤ 1 ⌝ }
-{
-    if names(t, spot) {
-        return 1;
-    }
-    0
-}
-
 // The last word, up or down from a place's word, that is accepted with all words between; and 1 where the place is named at the word
 // just beyond, 0 where not, or where there is no such word.
 struct Side {
@@ -104,9 +95,9 @@ struct Side {
 
 fn side_of(
     c: Case,
-    source: &[u16],
-    luma: &mut [u16],
-    chroma: &mut [u16],
+    source: &Room,
+    luma: &mut Room,
+    chroma: &mut Room,
     spot: Spot,
     v: usize,
     step: usize,
@@ -143,9 +134,9 @@ fn side_of(
 
 fn both_sides(
     c: Case,
-    source: &[u16],
-    luma: &mut [u16],
-    chroma: &mut [u16],
+    source: &Room,
+    luma: &mut Room,
+    chroma: &mut Room,
     spot: Spot,
     v: usize,
     step: usize,
@@ -165,9 +156,9 @@ fn both_sides(
 // The codes accepted at a place of a converted frame; the frame is left as it was.
 pub(crate) fn accepted_at(
     c: Case,
-    source: &[u16],
-    luma: &mut [u16],
-    chroma: &mut [u16],
+    source: &Room,
+    luma: &mut Room,
+    chroma: &mut Room,
     spot: Spot,
 ) -> Accepted
     ensures { λ r. ⌜ r .named ≤ 2 ⌝ }
@@ -198,9 +189,9 @@ pub(crate) struct Two {
 
 pub(crate) fn accepted_at_two(
     c: Case,
-    source: &[u16],
-    luma: &mut [u16],
-    chroma: &mut [u16],
+    source: &Room,
+    luma: &mut Room,
+    chroma: &mut Room,
     a: Spot,
     b: Spot,
 ) -> Two

@@ -3,10 +3,11 @@
 ghost use Prim.Native.Nat.{_≤_, _<_};
 use crate::answers;
 use crate::answers::Answers;
-use crate::calls;
 use crate::edges::ordered;
 use crate::edges::stored;
+use cases::calls;
 use cases::case::Case;
+use cases::draw::Room;
 use cases::planes::get;
 use cases::planes::index;
 use cases::planes::put;
@@ -19,7 +20,7 @@ fn held_by(two: bool, i: usize) -> usize
 }
 
 // Elements from one index to another hold the word of the first, or of the first two in turn.
-fn stick(plane: &mut [u16], from: usize, last: usize, two: bool)
+fn stick(plane: &mut Room, from: usize, last: usize, two: bool)
     requires { ⌜ (from ≤ 4000000) × (last ≤ 64) ⌝ }
 {
     for i in 0..last + 1 {
@@ -54,7 +55,7 @@ fn turned(v: usize, end: usize) -> usize {
     if v < end { end - v } else { v }
 }
 
-fn mirror(c: Case, plane: &mut [u16], from: usize, last: usize)
+fn mirror(c: Case, plane: &mut Room, from: usize, last: usize)
     requires { ⌜ (from ≤ 4000000) × (last ≤ 64) ⌝ }
 {
     for i in 0..last + 1 {
@@ -65,7 +66,7 @@ fn mirror(c: Case, plane: &mut [u16], from: usize, last: usize)
 }
 
 // Fault 0 is luma's, 1 and 2 are chroma's.
-fn spoil(c: Case, luma: &mut [u16], chroma: &mut [u16], fault: usize, row: usize, last: usize)
+fn spoil(c: Case, luma: &mut Room, chroma: &mut Room, fault: usize, row: usize, last: usize)
     requires { ⌜ (row ≤ 32) × (last ≤ 64) ⌝ }
 {
     let luma_from = index(c.luma_stride, row, 0);
@@ -81,9 +82,9 @@ fn spoil(c: Case, luma: &mut [u16], chroma: &mut [u16], fault: usize, row: usize
 
 fn try_row(
     c: Case,
-    source: &[u16],
-    luma: &mut [u16],
-    chroma: &mut [u16],
+    source: &Room,
+    luma: &mut Room,
+    chroma: &mut Room,
     fault: usize,
     row: usize,
     last: usize,
@@ -99,9 +100,9 @@ fn try_row(
 // Each row from the first to the last.
 pub(crate) fn run(
     c: Case,
-    source: &[u16],
-    luma: &mut [u16],
-    chroma: &mut [u16],
+    source: &Room,
+    luma: &mut Room,
+    chroma: &mut Room,
     fault: usize,
     last_row: usize,
     last: usize,

@@ -3,9 +3,10 @@
 ghost use Prim.Native.Nat.{_≤_, _<_};
 use crate::answers;
 use crate::answers::Answers;
-use crate::calls;
+use cases::calls;
 use cases::case::Case;
 use cases::draw;
+use cases::draw::Room;
 use cases::planes::get;
 use cases::planes::index;
 use cases::planes::put;
@@ -46,7 +47,7 @@ fn pixel_at(c: Case, row: usize, column: usize) -> usize
 }
 
 // The three colour samples of a pixel.
-fn copy(changed: &mut [u16], source: &[u16], to: usize, from: usize)
+fn copy(changed: &mut Room, source: &Room, to: usize, from: usize)
     requires { ⌜ (to ≤ 2162688) × (from ≤ 2162688) ⌝ }
 {
     put(changed, to, get(source, from));
@@ -57,11 +58,11 @@ fn copy(changed: &mut [u16], source: &[u16], to: usize, from: usize)
 // A pixel taken from another, and put back.
 fn try_pixel(
     c: Case,
-    source: &[u16],
-    changed: &mut [u16],
-    luma: &[u16],
-    spare: &mut [u16],
-    chroma: &mut [u16],
+    source: &Room,
+    changed: &mut Room,
+    luma: &Room,
+    spare: &mut Room,
+    chroma: &mut Room,
     to: usize,
     from: usize,
     so_far: Answers,
@@ -103,11 +104,11 @@ fn taken_from(c: Case, row: usize, n: usize) -> usize
 
 fn try_row(
     c: Case,
-    source: &[u16],
-    changed: &mut [u16],
-    luma: &[u16],
-    spare: &mut [u16],
-    chroma: &mut [u16],
+    source: &Room,
+    changed: &mut Room,
+    luma: &Room,
+    spare: &mut Room,
+    chroma: &mut Room,
     row: usize,
 ) -> Answers
     requires { ⌜ row ≤ 32 ⌝ }
@@ -123,11 +124,11 @@ fn try_row(
 
 fn try_rows(
     c: Case,
-    source: &[u16],
-    changed: &mut [u16],
-    luma: &[u16],
-    spare: &mut [u16],
-    chroma: &mut [u16],
+    source: &Room,
+    changed: &mut Room,
+    luma: &Room,
+    spare: &mut Room,
+    chroma: &mut Room,
     rows: usize,
 )
     requires { ⌜ rows ≤ 32 ⌝ }
@@ -149,11 +150,11 @@ fn least(a: usize, b: usize) -> usize
 
 fn try_frame(
     c: Case,
-    source: &[u16],
-    changed: &mut [u16],
-    luma: &mut [u16],
-    spare: &mut [u16],
-    chroma: &mut [u16],
+    source: &Room,
+    changed: &mut Room,
+    luma: &mut Room,
+    spare: &mut Room,
+    chroma: &mut Room,
 ) {
     calls::convert(c, source, luma, chroma);
     try_rows(c, source, changed, luma, spare, chroma, least(c.height, 32));
@@ -166,15 +167,5 @@ pub(crate) fn run(c: Case) {
     let mut luma = draw::room(7);
     let mut spare = draw::room(7);
     let mut chroma = draw::room(7);
-    let n = draw::within_room(c.source);
-    let m = draw::within_room(c.luma);
-    let k = draw::within_room(c.chroma);
-    try_frame(
-        c,
-        &source[..n],
-        &mut changed[..n],
-        &mut luma[..m],
-        &mut spare[..m],
-        &mut chroma[..k],
-    );
+    try_frame(c, &source, &mut changed, &mut luma, &mut spare, &mut chroma);
 }

@@ -5,13 +5,11 @@ use cases::case;
 use cases::case::Case;
 
 mod answers;
-mod calls;
 mod edges;
 mod faults;
 mod lost;
 mod pixels;
 mod rows;
-mod spot;
 
 // Smpte240 is refused at the full range from depth 13 on.
 fn range_of(t: usize) -> u32 {

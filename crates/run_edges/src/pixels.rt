@@ -1,16 +1,17 @@
 // Frames of one chroma block, given by the block's channel sums: the codes accepted as luma of its first pixel and as both chroma samples.
 // The extremes of every range; sums at which a code lies exactly at the tolerance; and sums at which one lies the least step beyond it.
 ghost use Prim.Native.Nat.{_≤_, _<_};
-use crate::calls;
 use crate::edges::Accepted;
 use crate::edges::Two;
 use crate::edges::accepted_at;
 use crate::edges::accepted_at_two;
-use crate::spot::spot_at;
+use cases::calls;
 use cases::case;
 use cases::case::Case;
 use cases::draw;
+use cases::draw::Room;
 use cases::planes::put;
+use cases::spot::spot_at;
 use cases::text;
 
 // Settings, the number of pixels, and the sums of their channels.
@@ -43,7 +44,7 @@ fn part(whole: u32, rest: u32, pixel: u32) -> u16 {
     (whole % 65536) as u16
 }
 
-fn put_pixel(source: &mut [u16], b: Block, pixel: u32)
+fn put_pixel(source: &mut Room, b: Block, pixel: u32)
     requires { ⌜ pixel < 4 ⌝ }
 {
     let at = 3 * pixel as usize;
@@ -52,7 +53,7 @@ fn put_pixel(source: &mut [u16], b: Block, pixel: u32)
     put(source, at + 2, share(b.blue, b.pixels, pixel));
 }
 
-fn put_pixels(source: &mut [u16], b: Block) {
+fn put_pixels(source: &mut Room, b: Block) {
     for pixel in 0..4 {
         put_pixel(source, b, pixel);
     }
@@ -102,14 +103,14 @@ fn put_block(b: Block, y: Accepted, pair: Two)
     );
 }
 
-fn try_block(c: Case, b: Block, source: &[u16], luma: &mut [u16], chroma: &mut [u16]) {
+fn try_block(c: Case, b: Block, source: &Room, luma: &mut Room, chroma: &mut Room) {
     let y = accepted_at(c, source, luma, chroma, spot_at(0, 0, 0, 0));
     let u = spot_at(1, 0, 0, 0);
     let v = spot_at(1, 0, 1, 1);
     put_block(b, y, accepted_at_two(c, source, luma, chroma, u, v));
 }
 
-fn convert_and_try(c: Case, b: Block, source: &mut [u16], luma: &mut [u16], chroma: &mut [u16]) {
+fn convert_and_try(c: Case, b: Block, source: &mut Room, luma: &mut Room, chroma: &mut Room) {
     put_pixels(source, b);
     calls::convert(c, source, luma, chroma);
     try_block(c, b, source, luma, chroma);
@@ -120,10 +121,7 @@ fn run_block(b: Block) {
     let mut source = draw::room(0);
     let mut luma = draw::room(7);
     let mut chroma = draw::room(7);
-    let n = draw::within_room(c.source);
-    let m = draw::within_room(c.luma);
-    let k = draw::within_room(c.chroma);
-    convert_and_try(c, b, &mut source[..n], &mut luma[..m], &mut chroma[..k]);
+    convert_and_try(c, b, &mut source, &mut luma, &mut chroma);
 }
 
 fn run_sums(

@@ -1,16 +1,17 @@
 // Frames wide and high enough that whole rows are judged at once: the codes accepted at the first, the middle and the last element of
 // the first, the middle and the last row of each plane; then whole rows at fault.
 ghost use Prim.Native.Nat.{_≤_, _<_};
-use crate::calls;
 use crate::edges::Accepted;
 use crate::edges::Two;
 use crate::edges::accepted_at;
 use crate::edges::accepted_at_two;
 use crate::faults;
-use crate::spot::Spot;
+use cases::calls;
 use cases::case::Case;
 use cases::draw;
+use cases::draw::Room;
 use cases::planes::index;
+use cases::spot::Spot;
 use cases::text;
 
 fn stride_of(c: Case, plane: u32) -> usize {
@@ -54,9 +55,9 @@ fn put_row(plane: u32, row: usize, last: usize, ends: Two, middle: Accepted)
 
 fn try_row(
     c: Case,
-    source: &[u16],
-    luma: &mut [u16],
-    chroma: &mut [u16],
+    source: &Room,
+    luma: &mut Room,
+    chroma: &mut Room,
     plane: u32,
     row: usize,
     last: usize,
@@ -78,9 +79,9 @@ fn try_row(
 
 fn try_plane(
     c: Case,
-    source: &[u16],
-    luma: &mut [u16],
-    chroma: &mut [u16],
+    source: &Room,
+    luma: &mut Room,
+    chroma: &mut Room,
     plane: u32,
     last_row: usize,
     last: usize,
@@ -140,7 +141,7 @@ fn chroma_end(c: Case) -> End
     }
 }
 
-fn try_planes(c: Case, source: &[u16], luma: &mut [u16], chroma: &mut [u16], y: End, uv: End)
+fn try_planes(c: Case, source: &Room, luma: &mut Room, chroma: &mut Room, y: End, uv: End)
     requires { ⌜ (y .row ≤ 32) × (y .element ≤ 64) × (uv .row ≤ 32) × (uv .element ≤ 64) ⌝ }
 {
     calls::convert(c, source, luma, chroma);
@@ -148,7 +149,7 @@ fn try_planes(c: Case, source: &[u16], luma: &mut [u16], chroma: &mut [u16], y: 
     try_plane(c, source, luma, chroma, 1, uv.row, uv.element);
 }
 
-fn try_frame(c: Case, source: &[u16], luma: &mut [u16], chroma: &mut [u16]) {
+fn try_frame(c: Case, source: &Room, luma: &mut Room, chroma: &mut Room) {
     let y = luma_end(c);
     let uv = chroma_end(c);
     try_planes(c, source, luma, chroma, y, uv);
@@ -163,8 +164,5 @@ pub(crate) fn run(c: Case) {
     let source = draw::source_of(c);
     let mut luma = draw::room(7);
     let mut chroma = draw::room(7);
-    let n = draw::within_room(c.source);
-    let m = draw::within_room(c.luma);
-    let k = draw::within_room(c.chroma);
-    try_frame(c, &source[..n], &mut luma[..m], &mut chroma[..k]);
+    try_frame(c, &source, &mut luma, &mut chroma);
 }

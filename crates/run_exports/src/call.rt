@@ -1,9 +1,10 @@
 // One case: the answers of settle, convert and check, each with all its numbers, and both planes.
 use answer_numbers::CheckedNumbers;
 use answer_numbers::SettledNumbers;
-use cases::case;
+use cases::calls;
 use cases::case::Case;
 use cases::draw;
+use cases::draw::Room;
 use cases::text;
 use libc::STDOUT_FILENO;
 use weight_nearness::sizes;
@@ -51,24 +52,18 @@ fn put_checked(t: CheckedNumbers) {
     put(b"\n");
 }
 
-fn convert_and_check(c: Case, source: &[u16], luma: &mut [u16], chroma: &mut [u16]) {
-    let settings = case::settings_of(c);
-    let frame = case::frame_of(c);
-    let number = ayresokum::ayresokum_convert(settings, frame, source, luma, chroma);
+fn convert_and_check(c: Case, source: &Room, luma: &mut Room, chroma: &mut Room) {
+    let number = calls::convert(c, source, luma, chroma);
     text::line(b"answer", &[text::small(number)]);
-    text::plane(b"luma", luma);
-    text::plane(b"chroma", chroma);
-    put_checked(ayresokum::ayresokum_check(settings, frame, source, luma, chroma));
+    text::planes(c, luma, chroma);
+    put_checked(calls::check(c, source, luma, chroma));
 }
 
 pub(crate) fn run(c: Case) {
     text::case(c);
-    put_settled(ayresokum::ayresokum_settle(case::settings_of(c)));
+    put_settled(calls::settle(c));
     let source = draw::source_of(c);
     let mut luma = draw::room(7);
     let mut chroma = draw::room(7);
-    let n = draw::within_room(c.source);
-    let m = draw::within_room(c.luma);
-    let k = draw::within_room(c.chroma);
-    convert_and_check(c, &source[..n], &mut luma[..m], &mut chroma[..k]);
+    convert_and_check(c, &source, &mut luma, &mut chroma);
 }

@@ -2,9 +2,10 @@
 // the sample is alpha or padding.
 ghost use Prim.Native.Nat.{_≤_, _<_};
 use answer_numbers::CheckedNumbers;
-use cases::case;
+use cases::calls;
 use cases::case::Case;
 use cases::draw;
+use cases::draw::Room;
 use cases::planes::get;
 use cases::planes::index;
 use cases::planes::put;
@@ -36,24 +37,22 @@ fn counted(tally: Tally, number: u32, t: CheckedNumbers) -> Tally {
 
 fn convert_and_check(
     c: Case,
-    source: &[u16],
-    luma: &mut [u16],
-    chroma: &mut [u16],
+    source: &Room,
+    luma: &mut Room,
+    chroma: &mut Room,
     tally: Tally,
 ) -> Tally {
-    let settings = case::settings_of(c);
-    let frame = case::frame_of(c);
-    let number = ayresokum::ayresokum_convert(settings, frame, source, luma, chroma);
-    let t = ayresokum::ayresokum_check(settings, frame, source, luma, chroma);
+    let number = calls::convert(c, source, luma, chroma);
+    let t = calls::check(c, source, luma, chroma);
     counted(tally, number, t)
 }
 
 // A sample put at an index, and put back.
 fn try_sample(
     c: Case,
-    source: &mut [u16],
-    luma: &mut [u16],
-    chroma: &mut [u16],
+    source: &mut Room,
+    luma: &mut Room,
+    chroma: &mut Room,
     at: usize,
     sample: u16,
     tally: Tally,
@@ -80,9 +79,9 @@ fn too_large(depth: u32) -> u16 {
 // Both the least and the greatest sample that is too large.
 fn try_element(
     c: Case,
-    source: &mut [u16],
-    luma: &mut [u16],
-    chroma: &mut [u16],
+    source: &mut Room,
+    luma: &mut Room,
+    chroma: &mut Room,
     at: usize,
     tally: Tally,
 ) -> Tally {
@@ -94,9 +93,9 @@ fn try_element(
 // Five elements from one on: the samples of a pixel and what comes after it.
 fn try_elements(
     c: Case,
-    source: &mut [u16],
-    luma: &mut [u16],
-    chroma: &mut [u16],
+    source: &mut Room,
+    luma: &mut Room,
+    chroma: &mut Room,
     first: usize,
     tally: Tally,
 ) -> Tally
@@ -123,9 +122,9 @@ fn first_of(channels: u32, column: usize) -> usize
 
 fn try_pixel(
     c: Case,
-    source: &mut [u16],
-    luma: &mut [u16],
-    chroma: &mut [u16],
+    source: &mut Room,
+    luma: &mut Room,
+    chroma: &mut Room,
     row: usize,
     column: usize,
     tally: Tally,
@@ -139,9 +138,9 @@ fn try_pixel(
 
 fn try_pixels(
     c: Case,
-    source: &mut [u16],
-    luma: &mut [u16],
-    chroma: &mut [u16],
+    source: &mut Room,
+    luma: &mut Room,
+    chroma: &mut Room,
     row: usize,
     last: usize,
     tally: Tally,
@@ -160,14 +159,7 @@ fn put_tally(row: usize, t: Tally) {
     );
 }
 
-fn try_row(
-    c: Case,
-    source: &mut [u16],
-    luma: &mut [u16],
-    chroma: &mut [u16],
-    row: usize,
-    last: usize,
-)
+fn try_row(c: Case, source: &mut Room, luma: &mut Room, chroma: &mut Room, row: usize, last: usize)
     requires { ⌜ (row ≤ 32) × (last ≤ 64) ⌝ }
 {
     let none = Tally {
@@ -181,9 +173,9 @@ fn try_row(
 
 fn try_rows(
     c: Case,
-    source: &mut [u16],
-    luma: &mut [u16],
-    chroma: &mut [u16],
+    source: &mut Room,
+    luma: &mut Room,
+    chroma: &mut Room,
     rows: usize,
     last: usize,
 )
@@ -209,14 +201,11 @@ pub(crate) fn run(c: Case) {
     let mut source = draw::source_of(c);
     let mut luma = draw::room(7);
     let mut chroma = draw::room(7);
-    let n = draw::within_room(c.source);
-    let m = draw::within_room(c.luma);
-    let k = draw::within_room(c.chroma);
     try_rows(
         c,
-        &mut source[..n],
-        &mut luma[..m],
-        &mut chroma[..k],
+        &mut source,
+        &mut luma,
+        &mut chroma,
         least(c.height, 32),
         least(last_column(c.width), 64),
     );

@@ -1,15 +1,14 @@
 -- `cases::text::checksum` meets its contract. Assumes nothing.
 use borrow.Author.Needs.{needs}
 use Prim.Native.Nat.{_≤_, _<_, _-_}
-use lib.ListN.{length}
 use Rattle.cases.proofs.text.checksum.Statement.{statement}
 use Rattle.cases.proofs.text.checksum.Tie as tie
 
 abbrev Inv-loop : tie.InvT-loop
-Inv-loop plane sum₀ i₀ sum i = (i ≤ length plane) × (sum < 65521)
+Inv-loop plane length sum₀ i₀ sum i = (i ≤ length) × (length ≤ 65540) × (sum < 65521)
 
 abbrev μ-loop : tie.MeasureT-loop
-μ-loop plane sum₀ i₀ sum i = length plane - i
+μ-loop plane length sum₀ i₀ sum i = length - i
 
 loop-holds : tie.Need-loop-holds Inv-loop μ-loop
 loop-holds c = search needs
@@ -17,8 +16,8 @@ loop-holds c = search needs
 mul-mixed : tie.Need-mul-mixed Inv-loop μ-loop
 mul-mixed c = search needs
 
-shared-slice-read-mixed : tie.Need-shared-slice-read-mixed Inv-loop μ-loop
-shared-slice-read-mixed c = search needs
+element-copy-out-mixed : tie.Need-element-copy-out-mixed Inv-loop μ-loop
+element-copy-out-mixed c = search needs
 
 mixed-requires : tie.Need-mixed-requires Inv-loop μ-loop
 mixed-requires c κs = search needs
@@ -43,7 +42,7 @@ checksum-spec =
     μ-loop
     loop-holds
     mul-mixed
-    shared-slice-read-mixed
+    element-copy-out-mixed
     mixed-requires
     add-i
     loop-less

@@ -1,28 +1,26 @@
 -- `cases::text::put_elements` meets its contract. Assumes nothing.
 use borrow.Author.Needs.{needs}
-use Prim.Native.Nat.{_≤_, _-_}
-use native.Mathlib.Omega.{arith}
-use lib.ListN.{length}
+use Prim.Native.Nat.{_≤_, _<_, _-_}
 use Rattle.cases.proofs.text.put_elements.Statement.{statement}
 use Rattle.cases.proofs.text.put_elements.Tie as tie
 
 abbrev Inv-loop : tie.InvT-loop
-Inv-loop plane i₀ i = i ≤ length plane
+Inv-loop plane length i₀ i = (i ≤ length) × (length ≤ 65540)
 
 abbrev μ-loop : tie.MeasureT-loop
-μ-loop plane i₀ i = length plane - i
+μ-loop plane length i₀ i = length - i
 
 loop-holds : tie.Need-loop-holds Inv-loop μ-loop
 loop-holds c = search needs
 
-mul-put-number : tie.Need-mul-put-number Inv-loop μ-loop
-mul-put-number c = search needs
+mul-wide : tie.Need-mul-wide Inv-loop μ-loop
+mul-wide c = search needs
 
-shared-slice-read-put-number : tie.Need-shared-slice-read-put-number Inv-loop μ-loop
-shared-slice-read-put-number c = search needs
+element-copy-out-wide : tie.Need-element-copy-out-wide Inv-loop μ-loop
+element-copy-out-wide c = search needs
 
-cast-put-number : tie.Need-cast-put-number Inv-loop μ-loop
-cast-put-number c = omega (arith, c .shared-slice-known2 .given (c .before .before .loop .i))
+wide-requires : tie.Need-wide-requires Inv-loop μ-loop
+wide-requires c κs = search needs
 
 put-number-requires : tie.Need-put-number-requires Inv-loop μ-loop
 put-number-requires c κs = search needs
@@ -46,9 +44,9 @@ put-elements-spec =
     Inv-loop
     μ-loop
     loop-holds
-    mul-put-number
-    shared-slice-read-put-number
-    cast-put-number
+    mul-wide
+    element-copy-out-wide
+    wide-requires
     put-number-requires
     add-i
     loop-less

@@ -1,13 +1,11 @@
 -- `run_checks::leftover::try_plane` meets its contract. Assumes nothing.
 use borrow.Author.Needs.{needs}
-use Prim.Native.Nat.{_-_, _≤_}
-use lib.ListN.{length}
-use mathlib.Core.Path.{_≡_}
+use Prim.Native.Nat.{_≤_, _-_}
 use Rattle.run_checks.proofs.leftover.try_plane.Statement.{statement}
 use Rattle.run_checks.proofs.leftover.try_plane.Tie as tie
 
 abbrev Inv-loop : tie.InvT-loop
-Inv-loop c source luma₀ chroma₀ old-luma old-chroma plane row₀ luma chroma row = (length luma ≡ length luma₀) × (length chroma ≡ length chroma₀) × (row ≤ 4)
+Inv-loop c source luma₀ chroma₀ old-luma old-chroma plane row₀ luma chroma row = row ≤ 4
 
 abbrev μ-loop : tie.MeasureT-loop
 μ-loop c source luma₀ chroma₀ old-luma old-chroma plane row₀ luma chroma row = 4 - row
@@ -18,8 +16,8 @@ loop-holds c = search needs
 try-rows-requires : tie.Need-try-rows-requires Inv-loop μ-loop
 try-rows-requires c κs = search needs
 
-sub-t17 : tie.Need-sub-t17 Inv-loop μ-loop
-sub-t17 c = search needs
+sub-t15 : tie.Need-sub-t15 Inv-loop μ-loop
+sub-t15 c = search needs
 
 try-rows-requires-2 : tie.Need-try-rows-requires-2 Inv-loop μ-loop
 try-rows-requires-2 c κs = search needs
@@ -33,12 +31,6 @@ loop-less c = search needs
 loop-again : tie.Need-loop-again Inv-loop μ-loop
 loop-again c = search needs
 
-same-length : tie.Need-same-length Inv-loop μ-loop
-same-length c = search needs
-
-same-length-2 : tie.Need-same-length-2 Inv-loop μ-loop
-same-length-2 c = search needs
-
 returns : tie.Need-returns Inv-loop μ-loop
 returns c = search needs
 
@@ -50,11 +42,9 @@ try-plane-spec =
     μ-loop
     loop-holds
     try-rows-requires
-    sub-t17
+    sub-t15
     try-rows-requires-2
     add-row
     loop-less
     loop-again
-    same-length
-    same-length-2
     returns)

@@ -1,19 +1,17 @@
 -- `run_checks::pairs::try_pairs` meets its contract. Assumes nothing.
 use borrow.Author.Needs.{needs}
 use Prim.Native.Nat.{_-_, _≤_}
-use lib.ListN.{length}
-use mathlib.Core.Path.{_≡_}
 use Rattle.run_checks.proofs.pairs.try_pairs.Statement.{statement}
 use Rattle.run_checks.proofs.pairs.try_pairs.Tie as tie
 
 abbrev Inv-loop2 : tie.InvT-loop2
-Inv-loop2 c source luma₀ chroma₀ count a b₀ luma chroma b = (length luma ≡ length luma₀) × (length chroma ≡ length chroma₀) × (b ≤ count)
+Inv-loop2 c source luma₀ chroma₀ count a b₀ luma chroma b = b ≤ count
 
 abbrev μ-loop2 : tie.MeasureT-loop2
 μ-loop2 c source luma₀ chroma₀ count a b₀ luma chroma b = count - b
 
 abbrev Inv-loop : tie.InvT-loop
-Inv-loop c source luma₀ chroma₀ count a₀ luma chroma a = (length luma ≡ length luma₀) × (length chroma ≡ length chroma₀) × (a ≤ count)
+Inv-loop c source luma₀ chroma₀ count a₀ luma chroma a = a ≤ count
 
 abbrev μ-loop : tie.MeasureT-loop
 μ-loop c source luma₀ chroma₀ count a₀ luma chroma a = count - a
@@ -45,12 +43,6 @@ loop-less c = search needs
 loop-again : tie.Need-loop-again Inv-loop2 μ-loop2 Inv-loop μ-loop
 loop-again c = search needs
 
-same-length : tie.Need-same-length Inv-loop2 μ-loop2 Inv-loop μ-loop
-same-length c = search needs
-
-same-length-2 : tie.Need-same-length-2 Inv-loop2 μ-loop2 Inv-loop μ-loop
-same-length-2 c = search needs
-
 returns : tie.Need-returns Inv-loop2 μ-loop2 Inv-loop μ-loop
 returns c = search needs
 
@@ -71,6 +63,4 @@ try-pairs-spec =
     add-a
     loop-less
     loop-again
-    same-length
-    same-length-2
     returns)

@@ -1,13 +1,11 @@
 -- `run_checks::planes::take` meets its contract. Assumes nothing.
 use borrow.Author.Needs.{needs}
-use Prim.Native.Nat.{_-_}
-use lib.ListN.{length}
-use mathlib.Core.Path.{_≡_}
+use Prim.Native.Nat.{_≤_, _-_}
 use Rattle.run_checks.proofs.planes.take.Statement.{statement}
 use Rattle.run_checks.proofs.planes.take.Tie as tie
 
 abbrev Inv-loop : tie.InvT-loop
-Inv-loop plane₀ other from to i₀ plane i = length plane ≡ length plane₀
+Inv-loop plane₀ other from to i₀ plane i = from ≤ i
 
 abbrev μ-loop : tie.MeasureT-loop
 μ-loop plane₀ other from to i₀ plane i = to - i
@@ -15,8 +13,11 @@ abbrev μ-loop : tie.MeasureT-loop
 loop-holds : tie.Need-loop-holds Inv-loop μ-loop
 loop-holds c = search needs
 
-take-one-requires : tie.Need-take-one-requires Inv-loop μ-loop
-take-one-requires c κs = search needs
+get-requires : tie.Need-get-requires Inv-loop μ-loop
+get-requires c κs = search needs
+
+put-requires : tie.Need-put-requires Inv-loop μ-loop
+put-requires c κs = search needs
 
 add-i : tie.Need-add-i Inv-loop μ-loop
 add-i c = search needs
@@ -26,9 +27,6 @@ loop-less c = search needs
 
 loop-again : tie.Need-loop-again Inv-loop μ-loop
 loop-again c = search needs
-
-same-length : tie.Need-same-length Inv-loop μ-loop
-same-length c = search needs
 
 returns : tie.Need-returns Inv-loop μ-loop
 returns c = search needs
@@ -40,9 +38,9 @@ take-spec =
     Inv-loop
     μ-loop
     loop-holds
-    take-one-requires
+    get-requires
+    put-requires
     add-i
     loop-less
     loop-again
-    same-length
     returns)

@@ -1,13 +1,11 @@
 -- `run_checks::words::try_spots` meets its contract. Assumes nothing.
 use borrow.Author.Needs.{needs}
 use Prim.Native.Nat.{_-_, _≤_}
-use lib.ListN.{length}
-use mathlib.Core.Path.{_≡_}
 use Rattle.run_checks.proofs.words.try_spots.Statement.{statement}
 use Rattle.run_checks.proofs.words.try_spots.Tie as tie
 
 abbrev Inv-loop : tie.InvT-loop
-Inv-loop c source luma₀ chroma₀ n₀ luma chroma n = (length luma ≡ length luma₀) × (length chroma ≡ length chroma₀) × (n ≤ 4)
+Inv-loop c source luma₀ chroma₀ n₀ luma chroma n = n ≤ 4
 
 abbrev μ-loop : tie.MeasureT-loop
 μ-loop c source luma₀ chroma₀ n₀ luma chroma n = 4 - n
@@ -30,12 +28,6 @@ loop-less c = search needs
 loop-again : tie.Need-loop-again Inv-loop μ-loop
 loop-again c = search needs
 
-same-length : tie.Need-same-length Inv-loop μ-loop
-same-length c = search needs
-
-same-length-2 : tie.Need-same-length-2 Inv-loop μ-loop
-same-length-2 c = search needs
-
 returns : tie.Need-returns Inv-loop μ-loop
 returns c = search needs
 
@@ -51,6 +43,4 @@ try-spots-spec =
     add-n
     loop-less
     loop-again
-    same-length
-    same-length-2
     returns)

@@ -1,13 +1,11 @@
 -- `run_checks::words::try_words` meets its contract. Assumes nothing.
 use borrow.Author.Needs.{needs}
 use Prim.Native.Nat.{_-_, _≤_}
-use lib.ListN.{length}
-use mathlib.Core.Path.{_≡_}
 use Rattle.run_checks.proofs.words.try_words.Statement.{statement}
 use Rattle.run_checks.proofs.words.try_words.Tie as tie
 
 abbrev Inv-loop : tie.InvT-loop
-Inv-loop c source luma₀ chroma₀ spot tally₀ v₀ t9 luma chroma tally v = (length luma ≡ length luma₀) × (length chroma ≡ length chroma₀) × (v ≤ 65536)
+Inv-loop c source luma₀ chroma₀ spot tally₀ v₀ t9 luma chroma tally v = v ≤ 65536
 
 abbrev μ-loop : tie.MeasureT-loop
 μ-loop c source luma₀ chroma₀ spot tally₀ v₀ t9 luma chroma tally v = 65536 - v
@@ -54,12 +52,6 @@ slice-aggregate-line-2 c = search needs
 line-requires : tie.Need-line-requires Inv-loop μ-loop
 line-requires c κs = search needs
 
-same-length : tie.Need-same-length Inv-loop μ-loop
-same-length c = search needs
-
-same-length-2 : tie.Need-same-length-2 Inv-loop μ-loop
-same-length-2 c = search needs
-
 returns : tie.Need-returns Inv-loop μ-loop
 returns c = search needs
 
@@ -83,6 +75,4 @@ try-words-spec =
     small-requires-3
     slice-aggregate-line-2
     line-requires
-    same-length
-    same-length-2
     returns)

@@ -1,13 +1,11 @@
 -- `run_crate::run::spoil_pairs` meets its contract. Assumes nothing.
 use borrow.Author.Needs.{needs}
 use Prim.Native.Nat.{_-_, _≤_}
-use lib.ListN.{length}
-use mathlib.Core.Path.{_≡_}
 use Rattle.run_crate.proofs.run.spoil_pairs.Statement.{statement}
 use Rattle.run_crate.proofs.run.spoil_pairs.Tie as tie
 
 abbrev Inv-loop : tie.InvT-loop
-Inv-loop luma₀ stride height last pair₀ luma pair = (length luma ≡ length luma₀) × (pair ≤ 4)
+Inv-loop luma₀ stride height last pair₀ luma pair = pair ≤ 4
 
 abbrev μ-loop : tie.MeasureT-loop
 μ-loop luma₀ stride height last pair₀ luma pair = 4 - pair
@@ -27,9 +25,6 @@ loop-less c = search needs
 loop-again : tie.Need-loop-again Inv-loop μ-loop
 loop-again c = search needs
 
-same-length : tie.Need-same-length Inv-loop μ-loop
-same-length c = search needs
-
 returns : tie.Need-returns Inv-loop μ-loop
 returns c = search needs
 
@@ -44,5 +39,4 @@ spoil-pairs-spec =
     add-pair
     loop-less
     loop-again
-    same-length
     returns)

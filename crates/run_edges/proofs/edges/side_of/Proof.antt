@@ -1,13 +1,11 @@
 -- `run_edges::edges::side_of` meets its contract. Assumes nothing.
 use borrow.Author.Needs.{needs}
 use Prim.Native.Nat.{_-_, _<_, _≤_}
-use lib.ListN.{length}
-use mathlib.Core.Path.{_≡_}
 use Rattle.run_edges.proofs.edges.side_of.Statement.{statement}
 use Rattle.run_edges.proofs.edges.side_of.Tie as tie
 
 abbrev Inv-loop : tie.InvT-loop
-Inv-loop c source luma₀ chroma₀ spot v step up last₀ i₀ luma chroma last i = (length luma ≡ length luma₀) × (length chroma ≡ length chroma₀) × (last < 65536) × (i ≤ 65536)
+Inv-loop c source luma₀ chroma₀ spot v step up last₀ i₀ luma chroma last i = (last < 65536) × (i ≤ 65536)
 
 abbrev μ-loop : tie.MeasureT-loop
 μ-loop c source luma₀ chroma₀ spot v step up last₀ i₀ luma chroma last i = 65536 - i
@@ -17,12 +15,6 @@ loop-holds c = search needs
 
 next-word-requires : tie.Need-next-word-requires Inv-loop μ-loop
 next-word-requires c κs = search needs
-
-same-length : tie.Need-same-length Inv-loop μ-loop
-same-length c = search needs
-
-same-length-2 : tie.Need-same-length-2 Inv-loop μ-loop
-same-length-2 c = search needs
 
 returns : tie.Need-returns Inv-loop μ-loop
 returns c = search needs
@@ -39,12 +31,6 @@ is-accepted-requires c κs = search needs
 named-requires : tie.Need-named-requires Inv-loop μ-loop
 named-requires c κs = search needs
 
-same-length-3 : tie.Need-same-length-3 Inv-loop μ-loop
-same-length-3 c = search needs
-
-same-length-4 : tie.Need-same-length-4 Inv-loop μ-loop
-same-length-4 c = search needs
-
 returns-2 : tie.Need-returns-2 Inv-loop μ-loop
 returns-2 c = search needs
 
@@ -57,12 +43,6 @@ loop-less c = search needs
 loop-again : tie.Need-loop-again Inv-loop μ-loop
 loop-again c = search needs
 
-same-length-5 : tie.Need-same-length-5 Inv-loop μ-loop
-same-length-5 c = search needs
-
-same-length-6 : tie.Need-same-length-6 Inv-loop μ-loop
-same-length-6 c = search needs
-
 returns-3 : tie.Need-returns-3 Inv-loop μ-loop
 returns-3 c = search needs
 
@@ -74,19 +54,13 @@ side-of-spec =
     μ-loop
     loop-holds
     next-word-requires
-    same-length
-    same-length-2
     returns
     stored-requires
     check-word-requires
     is-accepted-requires
     named-requires
-    same-length-3
-    same-length-4
     returns-2
     add-i
     loop-less
     loop-again
-    same-length-5
-    same-length-6
     returns-3)

@@ -1,13 +1,11 @@
 -- `run_edges::faults::run` meets its contract. Assumes nothing.
 use borrow.Author.Needs.{needs}
 use Prim.Native.Nat.{_-_, _≤_}
-use lib.ListN.{length}
-use mathlib.Core.Path.{_≡_}
 use Rattle.run_edges.proofs.faults.run.Statement.{statement}
 use Rattle.run_edges.proofs.faults.run.Tie as tie
 
 abbrev Inv-loop : tie.InvT-loop
-Inv-loop c source luma₀ chroma₀ fault last-row last all₀ row₀ t10 row-end luma chroma all row = (length luma ≡ length luma₀) × (length chroma ≡ length chroma₀) × (row ≤ row-end)
+Inv-loop c source luma₀ chroma₀ fault last-row last all₀ row₀ t10 row-end luma chroma all row = row ≤ row-end
 
 abbrev μ-loop : tie.MeasureT-loop
 μ-loop c source luma₀ chroma₀ fault last-row last all₀ row₀ t10 row-end luma chroma all row = row-end - row
@@ -45,12 +43,6 @@ slice-aggregate-line-2 c = search needs
 line-requires : tie.Need-line-requires Inv-loop μ-loop
 line-requires c κs = search needs
 
-same-length : tie.Need-same-length Inv-loop μ-loop
-same-length c = search needs
-
-same-length-2 : tie.Need-same-length-2 Inv-loop μ-loop
-same-length-2 c = search needs
-
 returns : tie.Need-returns Inv-loop μ-loop
 returns c = search needs
 
@@ -71,6 +63,4 @@ run-spec =
     small-requires
     slice-aggregate-line-2
     line-requires
-    same-length
-    same-length-2
     returns)

@@ -1,13 +1,11 @@
 -- `run_edges::lost::try_row` meets its contract. Assumes nothing.
 use borrow.Author.Needs.{needs}
 use Prim.Native.Nat.{_-_, _≤_}
-use lib.ListN.{length}
-use mathlib.Core.Path.{_≡_}
 use Rattle.run_edges.proofs.lost.try_row.Statement.{statement}
 use Rattle.run_edges.proofs.lost.try_row.Tie as tie
 
 abbrev Inv-loop : tie.InvT-loop
-Inv-loop c source changed₀ luma spare₀ chroma₀ row all₀ n₀ changed spare chroma all n = (length changed ≡ length changed₀) × (length spare ≡ length spare₀) × (length chroma ≡ length chroma₀) × (n ≤ 16)
+Inv-loop c source changed₀ luma spare₀ chroma₀ row all₀ n₀ changed spare chroma all n = n ≤ 16
 
 abbrev μ-loop : tie.MeasureT-loop
 μ-loop c source changed₀ luma spare₀ chroma₀ row all₀ n₀ changed spare chroma all n = 16 - n
@@ -36,15 +34,6 @@ loop-less c = search needs
 loop-again : tie.Need-loop-again Inv-loop μ-loop
 loop-again c = search needs
 
-same-length : tie.Need-same-length Inv-loop μ-loop
-same-length c = search needs
-
-same-length-2 : tie.Need-same-length-2 Inv-loop μ-loop
-same-length-2 c = search needs
-
-same-length-3 : tie.Need-same-length-3 Inv-loop μ-loop
-same-length-3 c = search needs
-
 returns : tie.Need-returns Inv-loop μ-loop
 returns c = search needs
 
@@ -62,7 +51,4 @@ try-row-spec =
     add-n
     loop-less
     loop-again
-    same-length
-    same-length-2
-    same-length-3
     returns)

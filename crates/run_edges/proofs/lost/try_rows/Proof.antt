@@ -1,13 +1,11 @@
 -- `run_edges::lost::try_rows` meets its contract. Assumes nothing.
 use borrow.Author.Needs.{needs}
 use Prim.Native.Nat.{_-_, _≤_}
-use lib.ListN.{length}
-use mathlib.Core.Path.{_≡_}
 use Rattle.run_edges.proofs.lost.try_rows.Statement.{statement}
 use Rattle.run_edges.proofs.lost.try_rows.Tie as tie
 
 abbrev Inv-loop : tie.InvT-loop
-Inv-loop c source changed₀ luma spare₀ chroma₀ rows row₀ t10 changed spare chroma row = (length changed ≡ length changed₀) × (length spare ≡ length spare₀) × (length chroma ≡ length chroma₀) × (row ≤ rows)
+Inv-loop c source changed₀ luma spare₀ chroma₀ rows row₀ t10 changed spare chroma row = row ≤ rows
 
 abbrev μ-loop : tie.MeasureT-loop
 μ-loop c source changed₀ luma spare₀ chroma₀ rows row₀ t10 changed spare chroma row = rows - row
@@ -39,15 +37,6 @@ loop-less c = search needs
 loop-again : tie.Need-loop-again Inv-loop μ-loop
 loop-again c = search needs
 
-same-length : tie.Need-same-length Inv-loop μ-loop
-same-length c = search needs
-
-same-length-2 : tie.Need-same-length-2 Inv-loop μ-loop
-same-length-2 c = search needs
-
-same-length-3 : tie.Need-same-length-3 Inv-loop μ-loop
-same-length-3 c = search needs
-
 returns : tie.Need-returns Inv-loop μ-loop
 returns c = search needs
 
@@ -66,7 +55,4 @@ try-rows-spec =
     add-row
     loop-less
     loop-again
-    same-length
-    same-length-2
-    same-length-3
     returns)

@@ -1,13 +1,11 @@
 -- `run_edges::pixels::put_pixels` meets its contract. Assumes nothing.
 use borrow.Author.Needs.{needs}
 use Prim.Native.Nat.{_-_, _≤_}
-use lib.ListN.{length}
-use mathlib.Core.Path.{_≡_}
 use Rattle.run_edges.proofs.pixels.put_pixels.Statement.{statement}
 use Rattle.run_edges.proofs.pixels.put_pixels.Tie as tie
 
 abbrev Inv-loop : tie.InvT-loop
-Inv-loop source₀ b pixel₀ source pixel = (length source ≡ length source₀) × (pixel ≤ 4)
+Inv-loop source₀ b pixel₀ source pixel = pixel ≤ 4
 
 abbrev μ-loop : tie.MeasureT-loop
 μ-loop source₀ b pixel₀ source pixel = 4 - pixel
@@ -27,9 +25,6 @@ loop-less c = search needs
 loop-again : tie.Need-loop-again Inv-loop μ-loop
 loop-again c = search needs
 
-same-length : tie.Need-same-length Inv-loop μ-loop
-same-length c = search needs
-
 returns : tie.Need-returns Inv-loop μ-loop
 returns c = search needs
 
@@ -44,5 +39,4 @@ put-pixels-spec =
     add-pixel
     loop-less
     loop-again
-    same-length
     returns)

@@ -1,13 +1,11 @@
 -- `run_frames::high::try_elements` meets its contract. Assumes nothing.
 use borrow.Author.Needs.{needs}
 use Prim.Native.Nat.{_-_, _≤_}
-use lib.ListN.{length}
-use mathlib.Core.Path.{_≡_}
 use Rattle.run_frames.proofs.high.try_elements.Statement.{statement}
 use Rattle.run_frames.proofs.high.try_elements.Tie as tie
 
 abbrev Inv-loop : tie.InvT-loop
-Inv-loop c source₀ luma₀ chroma₀ first next₀ i₀ source luma chroma next i = (length source ≡ length source₀) × (length luma ≡ length luma₀) × (length chroma ≡ length chroma₀) × (i ≤ 5)
+Inv-loop c source₀ luma₀ chroma₀ first next₀ i₀ source luma chroma next i = i ≤ 5
 
 abbrev μ-loop : tie.MeasureT-loop
 μ-loop c source₀ luma₀ chroma₀ first next₀ i₀ source luma chroma next i = 5 - i
@@ -30,15 +28,6 @@ loop-less c = search needs
 loop-again : tie.Need-loop-again Inv-loop μ-loop
 loop-again c = search needs
 
-same-length : tie.Need-same-length Inv-loop μ-loop
-same-length c = search needs
-
-same-length-2 : tie.Need-same-length-2 Inv-loop μ-loop
-same-length-2 c = search needs
-
-same-length-3 : tie.Need-same-length-3 Inv-loop μ-loop
-same-length-3 c = search needs
-
 returns : tie.Need-returns Inv-loop μ-loop
 returns c = search needs
 
@@ -54,7 +43,4 @@ try-elements-spec =
     add-i
     loop-less
     loop-again
-    same-length
-    same-length-2
-    same-length-3
     returns)

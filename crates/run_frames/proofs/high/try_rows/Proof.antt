@@ -1,13 +1,11 @@
 -- `run_frames::high::try_rows` meets its contract. Assumes nothing.
 use borrow.Author.Needs.{needs}
 use Prim.Native.Nat.{_-_, _≤_}
-use lib.ListN.{length}
-use mathlib.Core.Path.{_≡_}
 use Rattle.run_frames.proofs.high.try_rows.Statement.{statement}
 use Rattle.run_frames.proofs.high.try_rows.Tie as tie
 
 abbrev Inv-loop : tie.InvT-loop
-Inv-loop c source₀ luma₀ chroma₀ rows last row₀ source luma chroma row = (length source ≡ length source₀) × (length luma ≡ length luma₀) × (length chroma ≡ length chroma₀) × (row ≤ rows)
+Inv-loop c source₀ luma₀ chroma₀ rows last row₀ source luma chroma row = row ≤ rows
 
 abbrev μ-loop : tie.MeasureT-loop
 μ-loop c source₀ luma₀ chroma₀ rows last row₀ source luma chroma row = rows - row
@@ -27,15 +25,6 @@ loop-less c = search needs
 loop-again : tie.Need-loop-again Inv-loop μ-loop
 loop-again c = search needs
 
-same-length : tie.Need-same-length Inv-loop μ-loop
-same-length c = search needs
-
-same-length-2 : tie.Need-same-length-2 Inv-loop μ-loop
-same-length-2 c = search needs
-
-same-length-3 : tie.Need-same-length-3 Inv-loop μ-loop
-same-length-3 c = search needs
-
 returns : tie.Need-returns Inv-loop μ-loop
 returns c = search needs
 
@@ -50,7 +39,4 @@ try-rows-spec =
     add-row
     loop-less
     loop-again
-    same-length
-    same-length-2
-    same-length-3
     returns)

@@ -1,0 +1,35 @@
+-- `cases::calls::convert_parts` meets its contract. Assumes nothing.
+use borrow.Author.Needs.{needs}
+use Rattle.numbers.specs.Numbers.{settingsOf}
+use Rattle.cases.proofs.Small.{small-converted}
+use Rattle.cases.proofs.calls.convert_parts.Statement.{statement}
+use Rattle.cases.proofs.calls.convert_parts.Tie as tie
+
+settings-of-requires : tie.Need-settings-of-requires
+settings-of-requires c κs = search needs
+
+frame-of-requires : tie.Need-frame-of-requires
+frame-of-requires c κs = search needs
+
+ayresokum-convert-requires : tie.Need-ayresokum-convert-requires
+ayresokum-convert-requires c κs = search needs
+
+same-length : tie.Need-same-length
+same-length c = search needs
+
+same-length-2 : tie.Need-same-length-2
+same-length-2 c = search needs
+
+returns : tie.Need-returns
+returns c = let v = c .before .before .before .before .before .before .before .before .before .before .before .before .args in small-converted (c .before .before .before .before .before .before .before .frame-of .result) (v .source .now) (v .luma .now) (v .chroma .now) (settingsOf (c .before .before .before .before .before .before .before .before .settings-of .result)) (c .before .before .before .before .ayresokum-convert .result) (c .before .before .before .before .ayresokum-convert .ensures .0)
+
+pub convert-parts-spec : {M : Type 1} → statement M
+convert-parts-spec =
+    tie.close
+    (tie.spec
+    settings-of-requires
+    frame-of-requires
+    ayresokum-convert-requires
+    same-length
+    same-length-2
+    returns)

@@ -1,0 +1,81 @@
+// The exported functions on a case: it lends the first elements of each buffer.
+ghost use Prim.Native.Nat.{_≤_};
+use crate::case;
+use crate::case::Case;
+use crate::draw::Room;
+use crate::text;
+use answer_numbers::CheckedNumbers;
+use answer_numbers::SettledNumbers;
+
+pub fn settle(c: Case) -> SettledNumbers
+    ensures { λ r. ⌜ r .refusal ≤ 18 ⌝ }
+{
+    ayresokum::ayresokum_settle(case::settings_of(c))
+}
+
+fn least(a: usize, b: usize) -> usize
+    ensures { λ r. ⌜ r ≤ b ⌝ }
+{
+    if a < b { a } else { b }
+}
+
+fn convert_parts(c: Case, source: &[u16], luma: &mut [u16], chroma: &mut [u16]) -> u32
+    ensures { λ r. ⌜ r ≤ 18 ⌝ }
+{
+    ayresokum::ayresokum_convert(
+        case::settings_of(c),
+        case::frame_of(c),
+        source,
+        luma,
+        chroma,
+    )
+}
+
+fn convert_first(c: Case, source: &[u16], luma: &mut [u16], chroma: &mut [u16]) -> u32
+    ensures { λ r. ⌜ r ≤ 18 ⌝ }
+{
+    let n = least(c.source, source.len());
+    let m = least(c.luma, luma.len());
+    let k = least(c.chroma, chroma.len());
+    convert_parts(c, &source[..n], &mut luma[..m], &mut chroma[..k])
+}
+
+pub fn convert(c: Case, source: &Room, luma: &mut Room, chroma: &mut Room) -> u32
+    ensures { λ r. ⌜ r ≤ 18 ⌝ }
+{
+    convert_first(c, source, luma, chroma)
+}
+
+fn check_parts(c: Case, source: &[u16], luma: &[u16], chroma: &[u16]) -> CheckedNumbers
+    ensures { λ r. ⌜ (r .refusal ≤ 18) × (r .wrong ≤ 1) ⌝ }
+{
+    ayresokum::ayresokum_check(
+        case::settings_of(c),
+        case::frame_of(c),
+        source,
+        luma,
+        chroma,
+    )
+}
+
+fn check_first(c: Case, source: &[u16], luma: &[u16], chroma: &[u16]) -> CheckedNumbers
+    ensures { λ r. ⌜ (r .refusal ≤ 18) × (r .wrong ≤ 1) ⌝ }
+{
+    let n = least(c.source, source.len());
+    let m = least(c.luma, luma.len());
+    let k = least(c.chroma, chroma.len());
+    check_parts(c, &source[..n], &luma[..m], &chroma[..k])
+}
+
+pub fn check(c: Case, source: &Room, luma: &Room, chroma: &Room) -> CheckedNumbers
+    ensures { λ r. ⌜ (r .refusal ≤ 18) × (r .wrong ≤ 1) ⌝ }
+{
+    check_first(c, source, luma, chroma)
+}
+
+// Checks and prints the answer; hands back how many numbers it has.
+pub fn check_and_put(c: Case, source: &Room, luma: &Room, chroma: &Room) -> usize
+    ensures { λ r. ⌜ r ≤ 3 ⌝ }
+{
+    text::answer(check(c, source, luma, chroma))
+}
