@@ -26,12 +26,16 @@ fn more(n: usize, one: bool) -> usize {
     n
 }
 
+fn is_accepted(t: CheckedNumbers) -> bool {
+    t.refusal == 0 && t.wrong == 0
+}
+
 fn counted(tally: Tally, number: u32, t: CheckedNumbers) -> Tally {
     Tally {
         refused: more(tally.refused, number == 10),
         refused_by_check: more(tally.refused_by_check, t.refusal == 10),
         done: more(tally.done, number == 0),
-        accepted: more(tally.accepted, t.refusal == 0 && t.wrong == 0),
+        accepted: more(tally.accepted, is_accepted(t)),
     }
 }
 
