@@ -1,7 +1,6 @@
 // Rows left over from another frame, 5×4 both: each row of each plane alone, and each with all rows below it.
 ghost use Prim.Native.Nat.{_≤_};
 use crate::planes;
-use cases::calls;
 use cases::case::Case;
 use cases::draw;
 use cases::draw::Room;

@@ -1,7 +1,6 @@
 // Every one and every two elements of a converted frame, padding included, with their highest bits changed: the first wrong one is
 // named, and padding is not judged.
 use crate::planes;
-use cases::calls;
 use cases::case::Case;
 use cases::draw;
 use cases::draw::Room;

@@ -1,5 +1,4 @@
 // Checks planes that nothing was written to, with settings and frames that are refused: each refusal alone, then two at once.
-use cases::calls;
 use cases::case;
 use cases::case::Case;
 use cases::draw;

@@ -1,14 +1,13 @@
 // Each of the 65,536 words in turn at one place of a converted frame of 3×3 pixels with one element of padding in each row: how
 // many are accepted, the first and the last of them, and for how many the check names that very place.
 use answer_numbers::CheckedNumbers;
-use cases::calls;
+use calls::spot::Spot;
+use calls::spot::check_word;
+use calls::spot::named;
+use calls::spot::spot_at;
 use cases::case::Case;
 use cases::draw;
 use cases::draw::Room;
-use cases::spot::Spot;
-use cases::spot::check_word;
-use cases::spot::named;
-use cases::spot::spot_at;
 use cases::text;
 
 struct Tally {

@@ -1,6 +1,5 @@
 // One frame as the published loops leave it.
 ghost use Prim.Native.Nat.{_≤_};
-use cases::calls;
 use cases::case::Case;
 use cases::draw;
 use cases::draw::Room;

@@ -5,7 +5,6 @@ use crate::answers;
 use crate::answers::Answers;
 use crate::edges::ordered;
 use crate::edges::stored;
-use cases::calls;
 use cases::case::Case;
 use cases::draw::Room;
 use cases::planes::get;

@@ -3,7 +3,6 @@
 ghost use Prim.Native.Nat.{_≤_, _<_};
 use crate::answers;
 use crate::answers::Answers;
-use cases::calls;
 use cases::case::Case;
 use cases::draw;
 use cases::draw::Room;

@@ -5,13 +5,12 @@ use crate::edges::Accepted;
 use crate::edges::Two;
 use crate::edges::accepted_at;
 use crate::edges::accepted_at_two;
-use cases::calls;
+use calls::spot::spot_at;
 use cases::case;
 use cases::case::Case;
 use cases::draw;
 use cases::draw::Room;
 use cases::planes::put;
-use cases::spot::spot_at;
 use cases::text;
 
 // Settings, the number of pixels, and the sums of their channels.

@@ -6,12 +6,11 @@ use crate::edges::Two;
 use crate::edges::accepted_at;
 use crate::edges::accepted_at_two;
 use crate::faults;
-use cases::calls;
+use calls::spot::Spot;
 use cases::case::Case;
 use cases::draw;
 use cases::draw::Room;
 use cases::planes::index;
-use cases::spot::Spot;
 use cases::text;
 
 fn stride_of(c: Case, plane: u32) -> usize {

@@ -1,7 +1,6 @@
 // One case: the answers of settle, convert and check, each with all its numbers, and both planes.
 use answer_numbers::CheckedNumbers;
 use answer_numbers::SettledNumbers;
-use cases::calls;
 use cases::case::Case;
 use cases::draw;
 use cases::draw::Room;

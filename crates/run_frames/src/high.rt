@@ -2,7 +2,6 @@
 // the sample is alpha or padding.
 ghost use Prim.Native.Nat.{_≤_, _<_};
 use answer_numbers::CheckedNumbers;
-use cases::calls;
 use cases::case::Case;
 use cases::draw;
 use cases::draw::Room;

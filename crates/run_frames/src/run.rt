@@ -1,5 +1,4 @@
 // One case: a frame converted, the answer and both planes printed; then the planes checked, as written and spoiled.
-use cases::calls;
 use cases::case::Case;
 use cases::draw;
 use cases::draw::Room;

@@ -1,11 +1,14 @@
 // The exported functions on a case: it lends the first elements of each buffer.
 ghost use Prim.Native.Nat.{_≤_};
-use crate::case;
-use crate::case::Case;
-use crate::draw::Room;
-use crate::text;
+
+pub mod spot;
+
 use answer_numbers::CheckedNumbers;
 use answer_numbers::SettledNumbers;
+use cases::case;
+use cases::case::Case;
+use cases::draw::Room;
+use cases::text;
 
 pub fn settle(c: Case) -> SettledNumbers
     ensures { λ r. ⌜ r .refusal ≤ 18 ⌝ }

@@ -2,12 +2,11 @@
 ghost use mathlib.Core.Path.{_≡_};
 ghost use Prim.Native.Nat.{_≤_};
 ghost use lib.ListN.{length};
-use crate::calls;
-use crate::case::Case;
-use crate::draw::Room;
-use crate::planes::get;
-use crate::planes::put;
 use answer_numbers::CheckedNumbers;
+use cases::case::Case;
+use cases::draw::Room;
+use cases::planes::get;
+use cases::planes::put;
 
 // A place, and its index in its plane.
 pub struct Spot {
@@ -76,5 +75,5 @@ pub fn check_word(
     ensures { λ r. ⌜ (r .refusal ≤ 18) × (r .wrong ≤ 1) ⌝ }
 {
     put_word(luma, chroma, spot, v);
-    calls::check(c, source, luma, chroma)
+    crate::check(c, source, luma, chroma)
 }

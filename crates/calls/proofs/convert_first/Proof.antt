@@ -1,9 +1,9 @@
--- `cases::calls::convert_first` meets its contract. Assumes nothing.
+-- `calls::convert_first` meets its contract. Assumes nothing.
 use borrow.Author.Needs.{needs}
 use native.Mathlib.Omega.{arith}
 use lib.ListN.{length-take}
-use Rattle.cases.proofs.calls.convert_first.Statement.{statement}
-use Rattle.cases.proofs.calls.convert_first.Tie as tie
+use Rattle.calls.proofs.convert_first.Statement.{statement}
+use Rattle.calls.proofs.convert_first.Tie as tie
 
 least-requires : tie.Need-least-requires
 least-requires c κs = search needs
