@@ -1,6 +1,10 @@
 -- The answers of the services as numbers. Definitions only.
 use Prim.Native.Nat.{ℕ}
 use lib.IntN.{pos}
+use Rattle.rules.specs.declared.Place.{Place}
+use Rattle.rules.specs.declared.Refusal.{Refusal}
+use Rattle.rules.specs.declared.Refusal.the-variants.{Depth, Precision, CustomPair, WeightOff, CodeOutside, CustomUnchecked, Size, Stride, Length, TooLarge}
+use Rattle.rules.specs.declared.SourcePlace.{SourcePlace}
 use Rattle.rules.specs.declared.Weights.{Weights}
 use Rattle.rules.specs.declared.Settled.{Settled}
 use Rattle.rules.specs.declared.Settled.the-variants as settled
@@ -10,6 +14,7 @@ use Rattle.rules.specs.declared.Checked.{Checked}
 use Rattle.rules.specs.declared.Checked.the-variants as checked
 use Rattle.rules.specs.Refusals.{numberOf}
 use Rattle.answer_numbers.specs.declared.SettledNumbers.{SettledNumbers}
+use Rattle.answer_numbers.specs.declared.ConvertedNumbers.{ConvertedNumbers}
 use Rattle.answer_numbers.specs.declared.CheckedNumbers.{CheckedNumbers}
 
 -- on a refusal the nine weights are 0
@@ -33,14 +38,40 @@ abbrev pub settledNumbers : Settled → SettledNumbers
 settledNumbers (settled.Weighed w) = record { refusal = 0; weights = w }
 settledNumbers (settled.Refused r) = weightless (numberOf r)
 
-abbrev pub convertedNumber : Converted → ℕ
-convertedNumber converted.Done = 0
-convertedNumber (converted.Refused r) = numberOf r
+-- ---- the places that answers carry; what does not apply is 0
 
-abbrev pub told : ℕ → ℕ → ℕ → ℕ → ℕ → CheckedNumbers
-told refusal wrong plane row element = record { refusal = refusal; wrong = wrong; plane = plane; row = row; element = element }
+abbrev pub noSample : SourcePlace
+noSample = record { row = 0; pixel = 0; channel = 0 }
+
+abbrev pub noPlace : Place
+noPlace = record { plane = 0; row = 0; element = 0 }
+
+-- the sample that a refusal carries
+abbrev pub sampleOf : Refusal → SourcePlace
+sampleOf Depth = noSample
+sampleOf Precision = noSample
+sampleOf CustomPair = noSample
+sampleOf WeightOff = noSample
+sampleOf CodeOutside = noSample
+sampleOf CustomUnchecked = noSample
+sampleOf Size = noSample
+sampleOf Stride = noSample
+sampleOf Length = noSample
+sampleOf (TooLarge p) = p
+
+-- ---- convert and check
+
+abbrev pub refusedFor : ℕ → SourcePlace → ConvertedNumbers
+refusedFor refusal sample = record { refusal = refusal; sample = sample }
+
+abbrev pub convertedNumbers : Converted → ConvertedNumbers
+convertedNumbers converted.Done = refusedFor 0 noSample
+convertedNumbers (converted.Refused r) = refusedFor (numberOf r) (sampleOf r)
+
+abbrev pub told : ℕ → ℕ → Place → SourcePlace → CheckedNumbers
+told refusal wrong place sample = record { refusal = refusal; wrong = wrong; place = place; sample = sample }
 
 abbrev pub checkedNumbers : Checked → CheckedNumbers
-checkedNumbers checked.Accepted = told 0 0 0 0 0
-checkedNumbers (checked.Wrong p) = told 0 1 (p .plane) (p .row) (p .element)
-checkedNumbers (checked.Refused r) = told (numberOf r) 0 0 0 0
+checkedNumbers checked.Accepted = told 0 0 noPlace noSample
+checkedNumbers (checked.Wrong p) = told 0 1 p noSample
+checkedNumbers (checked.Refused r) = told (numberOf r) 0 noPlace (sampleOf r)

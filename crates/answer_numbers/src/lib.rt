@@ -1,11 +1,12 @@
-// The answers of the services as numbers, for callers from other languages.
+// The answers of the services as numbers, for callers from other languages. What does not apply is 0.
 ghost use mathlib.Core.Path.{_≡_};
-ghost use Prim.Native.Nat.{_≤_};
-ghost use Rattle.answer_numbers.specs.AnswerNumbers.{weightless, settledNumbers, convertedNumber, told, checkedNumbers};
-ghost use Rattle.answer_numbers.specs.Places.{Placed};
+ghost use Rattle.answer_numbers.specs.AnswerNumbers.{weightless, settledNumbers, noSample, sampleOf, refusedFor, convertedNumbers, noPlace, told, checkedNumbers};
 use rules::Checked;
 use rules::Converted;
+use rules::Place;
+use rules::Refusal;
 use rules::Settled;
+use rules::SourcePlace;
 use rules::Weights;
 
 // Refusal 0 is success; the nine weights are 0 on a refusal.
@@ -15,14 +16,20 @@ pub struct SettledNumbers {
     pub weights: Weights,
 }
 
-// Refusal 0 and wrong 0 is accepted; wrong 1 gives the place; the rest is 0.
+// Refusal 0 is done; refusal 10 gives the sample that is too large.
+#[repr(C)]
+pub struct ConvertedNumbers {
+    pub refusal: u32,
+    pub sample: SourcePlace,
+}
+
+// Refusal 0 and wrong 0 is accepted; wrong 1 gives the place; refusal 10 gives the sample that is too large.
 #[repr(C)]
 pub struct CheckedNumbers {
     pub refusal: u32,
     pub wrong: u32,
-    pub plane: u32,
-    pub row: u32,
-    pub element: u32,
+    pub place: Place,
+    pub sample: SourcePlace,
 }
 
 pub fn weightless(refusal: u32) -> SettledNumbers
@@ -54,42 +61,76 @@ pub fn settled_numbers(answer: Settled) -> SettledNumbers
     }
 }
 
-pub fn converted_number(answer: Converted) -> u32
-    ensures { λ r. ⌜ r ≡ convertedNumber answer ⌝ }
+pub fn no_sample() -> SourcePlace
+    ensures { λ r. ⌜ r ≡ noSample ⌝ }
 {
-    match answer {
-        Converted::Done => 0,
-        Converted::Refused(r) => r.number(),
+    SourcePlace {
+        row: 0,
+        pixel: 0,
+        channel: 0,
     }
 }
 
-pub fn told(refusal: u32, wrong: u32, plane: u32, row: u32, element: u32) -> CheckedNumbers
-    ensures { λ r. ⌜ r ≡ told refusal wrong plane row element ⌝ }
+// The sample that a refusal carries.
+fn sample_of(r: Refusal) -> SourcePlace
+    ensures { λ p. ⌜ p ≡ sampleOf r ⌝ }
+{
+    match r {
+        Refusal::Depth => no_sample(),
+        Refusal::Precision => no_sample(),
+        Refusal::CustomPair => no_sample(),
+        Refusal::WeightOff => no_sample(),
+        Refusal::CodeOutside => no_sample(),
+        Refusal::CustomUnchecked => no_sample(),
+        Refusal::Size => no_sample(),
+        Refusal::Stride => no_sample(),
+        Refusal::Length => no_sample(),
+        Refusal::TooLarge(p) => p,
+    }
+}
+
+pub fn refused_for(refusal: u32, sample: SourcePlace) -> ConvertedNumbers
+    ensures { λ r. ⌜ r ≡ refusedFor refusal sample ⌝ }
+{
+    ConvertedNumbers { refusal, sample }
+}
+
+pub fn converted_numbers(answer: Converted) -> ConvertedNumbers
+    ensures { λ r. ⌜ r ≡ convertedNumbers answer ⌝ }
+{
+    match answer {
+        Converted::Done => refused_for(0, no_sample()),
+        Converted::Refused(r) => refused_for(r.number(), sample_of(r)),
+    }
+}
+
+pub fn no_place() -> Place
+    ensures { λ r. ⌜ r ≡ noPlace ⌝ }
+{
+    Place {
+        plane: 0,
+        row: 0,
+        element: 0,
+    }
+}
+
+pub fn told(refusal: u32, wrong: u32, place: Place, sample: SourcePlace) -> CheckedNumbers
+    ensures { λ r. ⌜ r ≡ told refusal wrong place sample ⌝ }
 {
     CheckedNumbers {
         refusal,
         wrong,
-        plane,
-        row,
-        element,
+        place,
+        sample,
     }
 }
 
-// A place of a frame fits 32 bits.
-fn small(n: usize) -> u32
-    requires { ⌜ n ≤ 65536 ⌝ }
-    ensures { λ r. ⌜ r ≡ n ⌝ }
-{
-    n as u32
-}
-
 pub fn checked_numbers(answer: Checked) -> CheckedNumbers
-    requires { ⌜ Placed answer ⌝ }
     ensures { λ r. ⌜ r ≡ checkedNumbers answer ⌝ }
 {
     match answer {
-        Checked::Accepted => told(0, 0, 0, 0, 0),
-        Checked::Wrong(p) => told(0, 1, small(p.plane), small(p.row), small(p.element)),
-        Checked::Refused(r) => told(r.number(), 0, 0, 0, 0),
+        Checked::Accepted => told(0, 0, no_place(), no_sample()),
+        Checked::Wrong(p) => told(0, 1, p, no_sample()),
+        Checked::Refused(r) => told(r.number(), 0, no_place(), sample_of(r)),
     }
 }

@@ -7,6 +7,7 @@ use Rattle.rules.specs.declared.Frame.{Frame}
 use Rattle.rules.specs.declared.Named.{Named}
 use Rattle.rules.specs.declared.Matrix.{Matrix}
 use Rattle.rules.specs.declared.Matrix.the-variants.{Tabled}
+use Rattle.rules.specs.declared.Place.{Place}
 use Rattle.rules.specs.declared.Search.{Search}
 use Rattle.rules.specs.declared.Search.the-variants.{Nothing, At}
 use Rattle.rules.specs.Matrices.{matrixOf}
@@ -25,6 +26,10 @@ pub by-row : (s : Settings) (f : Frame) (source luma chroma : List ℕ) (k : Nam
 by-row s f source luma chroma k e = sym (ap (λ (m : Matrix). judgedBy m s f (shown s f source) luma chroma) e)
 
 -- ---- what the two walks come to
+
+-- a place with these numbers has these values
+pub placed : {p : Place} {plane row element : ℕ} → (p .plane ≡ plane) × (p .row ≡ row) × (p .element ≡ element) → given (placeValues (p .plane) (p .row) (p .element)) ≡ given (placeValues plane row element)
+placed e = λ i. given (placeValues (e .0 i) (e .1 i) (e .2 i))
 
 pub luma-wrong : (c : Search) {y : Search} {row element : ℕ} → y ≡ At row element → given (placeValues 0 row element) ≡ firstPlace y c
 luma-wrong c e = sym (ap (λ (x : Search). firstPlace x c) e)

@@ -1,12 +1,15 @@
 // Refusals 7 to 10: the size, the strides, the lengths, and a sample that is too large. None of the sums and products can wrap.
 ghost use mathlib.Core.Path.{_≡_};
 ghost use Rattle.rules.specs.Refusals.{first, lineOf, outside};
-ghost use Rattle.rules.specs.Frames.{sizeOff, strideOff, lengthOff, frameLines};
+ghost use Rattle.rules.specs.Frames.{sizeOff, strideOff, lengthOff, placeLine, frameLines};
 ghost use Rattle.rule_laws.specs.Usable.{Reach};
 ghost use Rattle.frames.specs.Tests.{Sized, Strided, Clear};
+ghost use Rattle.frame_refusals.specs.Places.{WithinFrame};
 use rules::Frame;
 use rules::Refusal;
+use rules::Search;
 use rules::Settings;
+use rules::SourcePlace;
 use rules::Verdict;
 use yuv_support::channels;
 use yuv_support::ranges;
@@ -67,6 +70,24 @@ pub fn length_off(s: Settings, f: Frame, source: usize, luma: usize, chroma: usi
     chroma != blocks::chroma_height(subsampling, f.height) * f.chroma_stride
 }
 
+// Refusal 10 where a sample was found: sample i of a row's colour samples is channel i % 3 of pixel i / 3.
+fn place_verdict(found: Search) -> Verdict
+    requires { ⌜ WithinFrame found ⌝ }
+    ensures { λ r. ⌜ lineOf r ≡ placeLine found ⌝ }
+{
+    match found {
+        Search::Nothing => Verdict::Passes,
+        Search::At(row, i) => {
+            let place = SourcePlace {
+                row: row as u32,
+                pixel: (i / 3) as u32,
+                channel: (i % 3) as u32,
+            };
+            Verdict::Refuses(Refusal::TooLarge(place))
+        }
+    }
+}
+
 // The first of refusals 7 to 10 that applies to a frame and its buffers, or none.
 pub fn frame_verdict(s: Settings, f: Frame, source: &[u16], luma: usize, chroma: usize) -> Verdict
     requires { ⌜ Reach s ⌝ }
@@ -84,8 +105,5 @@ pub fn frame_verdict(s: Settings, f: Frame, source: &[u16], luma: usize, chroma:
     }
     let channels = s.channels;
     let m = ranges::most(s.depth) as u16;
-    if scan::is_found(scan::too_large(m, channels, f, source)) {
-        return Verdict::Refuses(Refusal::TooLarge);
-    }
-    Verdict::Passes
+    place_verdict(scan::too_large(m, channels, f, source))
 }

@@ -12,9 +12,7 @@ use Rattle.rules.specs.declared.YuvChromaSubsampling.{YuvChromaSubsampling}
 use Rattle.rules.specs.Ranges.{most}
 use Rattle.rules.specs.Channels.{Picture, picture}
 use Rattle.rules.specs.Blocks.{block, chromaWidth, chromaHeight}
-use Rattle.rules.specs.Refusals.{line}
-use Rattle.rules.specs.Search.{isFound}
-use Rattle.rules.specs.Frames.{channelOf, lowTest, tooLarge, sizeLine, strideLine, lengthLine, frameLines}
+use Rattle.rules.specs.Frames.{channelOf, lowTest, tooLarge, placeLine, sizeLine, strideLine, lengthLine, frameLines}
 use Rattle.plane_laws.proofs.Searches.{same-search}
 use Rattle.blocks.specs.Tiles.{leftOf, wideAt, topOf, twoAt}
 use Rattle.blocks.proofs.Tiles.{block-tiles, left-below, wide-below, top-below, two-below, tiles-same}
@@ -53,5 +51,5 @@ same-lines s f a b luma chroma h =
     λ i. sizeLine f ∷
     strideLine s f ∷
     lengthLine s f (h .long i) luma chroma ∷
-    line 10 (isFound (same-scan f _ _ (pictures (s .channels) f a b h) (most (s .depth)) i)) ∷
+    placeLine (same-scan f _ _ (pictures (s .channels) f a b h) (most (s .depth)) i) ∷
     []

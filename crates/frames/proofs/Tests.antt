@@ -1,5 +1,5 @@
 -- What the tests of a frame leave. Assumes nothing.
-use mathlib.Core.Path.{_≡_, sym, ap, _∙_}
+use mathlib.Core.Path.{_≡_, refl, sym, ap, _∙_}
 use mathlib.Core.List.{List}
 use mathlib.Core.Bool.{false, not, _||_}
 use Prim.Native.Nat.{ℕ, _+_, _*_, _/_, _%_, _≤_, _<_}
@@ -13,16 +13,19 @@ use Rattle.rules.specs.declared.Frame.{Frame}
 use Rattle.rules.specs.Ranges.{most}
 use Rattle.rules.specs.Channels.{Picture, count}
 use Rattle.rules.specs.Blocks.{chromaWidth, chromaHeight}
-use Rattle.rules.specs.Refusals.{passes, outside, first}
-use Rattle.rules.specs.Search.{firstFailing, isFound}
-use Rattle.rules.specs.Frames.{sizeOff, strideOff, lengthOff, shown, channelOf, colourSample, lowTest, tooLarge, frameLines}
-use Rattle.rule_laws.proofs.Refusals.{bounds, passed-by}
+use Rattle.rules.specs.Refusals.{passes, lineOf, outside, first}
+use Rattle.rules.specs.declared.Verdict.{Verdict}
+use Rattle.rules.specs.declared.Verdict.the-variants.{Passes, Refuses}
+use Rattle.rules.specs.declared.Search.{Search}
+use Rattle.rules.specs.declared.Search.the-variants.{Nothing, At}
+use Rattle.rules.specs.Frames.{sizeOff, strideOff, lengthOff, shown, channelOf, colourSample, lowTest, tooLarge, placeLine, frameLines}
+use Rattle.rule_laws.proofs.Refusals.{bounds, passed, passed-by}
 use Rattle.plane_laws.proofs.Tests.{neither}
 use Rattle.plane_laws.proofs.Tables.{step-le}
-use Rattle.plane_laws.proofs.Searches.{not-found, none-clean}
+use Rattle.plane_laws.proofs.Searches.{none-clean}
 use Rattle.blocks.proofs.Tiles.{width-some}
 use Rattle.frames.specs.Rows.{Rows, LowPicture}
-use Rattle.frames.specs.Tests.{Sized, Strided, Laid, Ready}
+use Rattle.frames.specs.Tests.{Sized, Strided, Laid, Ready, Clear}
 use Rattle.frames.proofs.Places.{places}
 
 pub sized : (f : Frame) → sizeOff f ≡ false → Sized f
@@ -74,10 +77,10 @@ sample-of px row x c h =
     let whole : (3 * x + c) / 3 ≡ x = omega arith in
     λ i. channelOf (rest i) (px row (whole i))
 
-pub low-picture : (m : ℕ) (f : Frame) (px : Picture) → isFound (tooLarge m f px) ≡ false → LowPicture m px (f .width) (f .height)
+pub low-picture : (m : ℕ) (f : Frame) (px : Picture) → tooLarge m f px ≡ Nothing → LowPicture m px (f .width) (f .height)
 unfolding tooLarge
 low-picture m f px h =
-    let clean = none-clean (lowTest m px) (3 * f .width) (f .height) (not-found (firstFailing (lowTest m px) (3 * f .width) (f .height)) h) in
+    let clean = none-clean (lowTest m px) (3 * f .width) (f .height) h in
     let low : (row x c : ℕ) → row < f .height → x < f .width → c < 3 → channelOf c (px row x) ≤ m = λ row x c b l k.
     leb-true (channelOf c (px row x)) m
     (sym (ap (λ (v : ℕ). leb v m) (sample-of px row x c k)) ∙ clean .clean row (3 * x + c) b (omega arith)) in
@@ -86,6 +89,11 @@ low-picture m f px h =
         low = λ x l. record { red = low row x 0 b l (lit< tt); green = low row x 1 b l (lit< tt); blue = low row x 2 b l (lit< tt) };
       };
     }
+
+-- a search whose line passes found nothing
+pub no-place : (x : Search) → placeLine x ≡ passes → x ≡ Nothing
+no-place Nothing h = refl
+no-place (At row i) h = absurd (let z : _≡_ {A = ℕ} 0 1 = cc in omega arith)
 
 -- ---- a frame that no refusal meets can be converted
 pub ready : (s : Settings) (f : Frame) (source : List ℕ) (luma chroma : ℕ) → first (frameLines s f source luma chroma) ≡ passes → Ready s f source luma chroma
@@ -97,5 +105,10 @@ ready s f source luma chroma h =
     record {
       sized = z;
       laid = laid s f (length source) luma chroma z (strided s f (stride .0)) (long .0);
-      low = low-picture (most (s .depth)) f (shown s f source) (passed-by _ _ _ (long .1) .0);
+      low = low-picture (most (s .depth)) f (shown s f source) (no-place _ (passed _ _ (long .1) .0));
     }
+
+-- so a verdict that says what these lines come to leaves a frame that can be converted, where it passes
+pub clear : (s : Settings) (f : Frame) (source : List ℕ) (luma chroma : ℕ) (r : Verdict) → lineOf r ≡ first (frameLines s f source luma chroma) → Clear s f source luma chroma r
+clear s f source luma chroma Passes h = ready s f source luma chroma (sym h)
+clear s f source luma chroma (Refuses n) h = tt

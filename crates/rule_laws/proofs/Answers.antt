@@ -7,6 +7,7 @@ use lib.IntN.{ℤ, pos, natAbs}
 use lib.ListN.{getD}
 use Rattle.rules.specs.declared.Refusal.{Refusal}
 use Rattle.rules.specs.declared.Refusal.the-variants.{Depth, Precision, CustomPair, WeightOff, CodeOutside, CustomUnchecked, Size, Stride, Length, TooLarge}
+use Rattle.rules.specs.declared.SourcePlace.{SourcePlace}
 use Rattle.rules.specs.declared.Weights.{Weights}
 use Rattle.rules.specs.declared.Place.{Place}
 use Rattle.rules.specs.declared.Settled.{Settled}
@@ -15,20 +16,23 @@ use Rattle.rules.specs.declared.Converted.{Converted}
 use Rattle.rules.specs.declared.Converted.the-variants as converted
 use Rattle.rules.specs.declared.Checked.{Checked}
 use Rattle.rules.specs.declared.Checked.the-variants as checked
-use Rattle.rules.specs.Refusals.{numberOf, Line, passes, refuses}
+use Rattle.rules.specs.Refusals.{numberOf, valuesOf, Line, passes, refuses}
 use Rattle.rules.specs.Answers.{Answer, given, refused, answer, refusal, weightValues, settledAnswer, convertedAnswer, placeValues, checkedAnswer}
 
--- ---- a refusal by its number
+-- ---- a refusal by its number and values
+
+sourcePlaceIn : List ℤ → SourcePlace
+sourcePlaceIn v = record { row = natAbs (getD v 0 (pos 0)); pixel = natAbs (getD v 1 (pos 0)); channel = natAbs (getD v 2 (pos 0)) }
 
 -- in the order of their numbers, from 1 on
-refusals : List Refusal
-refusals = Depth ∷ Precision ∷ CustomPair ∷ WeightOff ∷ CodeOutside ∷ CustomUnchecked ∷ Size ∷ Stride ∷ Length ∷ TooLarge ∷ []
+refusals : List ℤ → List Refusal
+refusals v = Depth ∷ Precision ∷ CustomPair ∷ WeightOff ∷ CodeOutside ∷ CustomUnchecked ∷ Size ∷ Stride ∷ Length ∷ TooLarge (sourcePlaceIn v) ∷ []
 
-numbered : ℕ → Refusal
-numbered n = getD refusals (n - 1) TooLarge
+numbered : ℕ → List ℤ → Refusal
+numbered n v = getD (refusals v) (n - 1) Depth
 
-numbered-back : (r : Refusal) → numbered (numberOf r) ≡ r
-unfolding numbered refusals
+numbered-back : (r : Refusal) → numbered (numberOf r) (valuesOf r) ≡ r
+unfolding numbered refusals sourcePlaceIn
 numbered-back Depth = refl
 numbered-back Precision = refl
 numbered-back CustomPair = refl
@@ -38,7 +42,7 @@ numbered-back CustomUnchecked = refl
 numbered-back Size = refl
 numbered-back Stride = refl
 numbered-back Length = refl
-numbered-back TooLarge = refl
+numbered-back (TooLarge p) = refl
 
 abbrev numberIn : Answer → ℕ
 numberIn (given v) = 0
@@ -49,7 +53,7 @@ valuesIn (given v) = v
 valuesIn (refused n v) = v
 
 pub same-refusal : (a b : Refusal) → refusal a ≡ refusal b → a ≡ b
-same-refusal a b e = sym (numbered-back a) ∙ ap (λ (x : Answer). numbered (numberIn x)) e ∙ numbered-back b
+same-refusal a b e = sym (numbered-back a) ∙ ap (λ (x : Answer). numbered (numberIn x) (valuesIn x)) e ∙ numbered-back b
 
 -- ---- the nine weights, and a place, by their values
 

@@ -14,6 +14,11 @@ pub end : first [] ≡ passes
 unfolding first
 end = refl
 
+pub alone : (l : Line) → first (l ∷ []) ≡ l
+unfolding first
+alone passes = refl
+alone (refuses n v) = refl
+
 module _ (l : Line) (ls : List Line) where
   pub stop : {n : ℕ} {v : List ℤ} → l ≡ refuses n v → first (l ∷ ls) ≡ refuses n v
   unfolding first
@@ -91,8 +96,6 @@ parted (l ∷ ls) ms h =
     let p = passed l (ls ++ ms) h in
     let q = parted ls ms (p .1) in
     (skip l ls (p .0) ∙ q .0, q .1)
-
--- ---- the verdicts of code
 
 -- ---- a number below a lower bound, from it on, and within two bounds
 module _ (low high n : ℕ) where

@@ -8,11 +8,12 @@ use Rattle.rules.specs.declared.Settings.{Settings}
 use Rattle.rules.specs.declared.Frame.{Frame}
 use Rattle.rules.specs.declared.Pixel.{Pixel}
 use Rattle.rules.specs.declared.Search.{Search}
+use Rattle.rules.specs.declared.Search.the-variants.{Nothing, At}
 use Rattle.rules.specs.Ranges.{most}
 use Rattle.rules.specs.Channels.{count, Picture, picture}
 use Rattle.rules.specs.Blocks.{chromaWidth, chromaHeight}
-use Rattle.rules.specs.Refusals.{outside, Line, line, first}
-use Rattle.rules.specs.Search.{Test, firstFailing, isFound}
+use Rattle.rules.specs.Refusals.{outside, Line, passes, refuses, line, first, sourceValues}
+use Rattle.rules.specs.Search.{Test, firstFailing}
 
 -- 7: "width or height is 0 or over 16,384"
 abbrev pub sizeOff : Frame → Bool
@@ -65,8 +66,13 @@ strideLine s f = line 8 (strideOff s f)
 abbrev pub lengthLine : Settings → Frame → ℕ → ℕ → ℕ → Line
 lengthLine s f source luma chroma = line 9 (lengthOff s f source luma chroma)
 
+-- 02: "Refusal 10 is to carry row, pixel and channel (red before green before blue) of the first too-large visible sample"
+abbrev pub placeLine : Search → Line
+placeLine Nothing = passes
+placeLine (At row i) = refuses 10 (sourceValues row (i / 3) (i % 3))
+
 abbrev pub tooLargeLine : Settings → Frame → List ℕ → Line
-tooLargeLine s f source = line 10 (isFound (tooLarge (most (s .depth)) f (shown s f source)))
+tooLargeLine s f source = placeLine (tooLarge (most (s .depth)) f (shown s f source))
 
 -- what convert and check ask of a frame, in order
 abbrev pub frameLines : Settings → Frame → List ℕ → ℕ → ℕ → List Line

@@ -3,7 +3,7 @@ use Prim.Native.Nat.{ℕ}
 use mathlib.Core.Bool.{Bool, true, false, not, _&&_}
 use mathlib.Core.List.{List, [], _∷_}
 use lib.Dec.{leb}
-use lib.IntN.{ℤ}
+use lib.IntN.{ℤ, pos}
 use Rattle.rules.specs.declared.Refusal.{Refusal}
 use Rattle.rules.specs.declared.Refusal.the-variants.{Depth, Precision, CustomPair, WeightOff, CodeOutside, CustomUnchecked, Size, Stride, Length, TooLarge}
 use Rattle.rules.specs.declared.Verdict.{Verdict}
@@ -21,11 +21,24 @@ numberOf CustomUnchecked = 6
 numberOf Size = 7
 numberOf Stride = 8
 numberOf Length = 9
-numberOf TooLarge = 10
+numberOf (TooLarge p) = 10
 
--- "A refusal returns its number only"
+-- 02: "row, pixel and channel (red before green before blue)"
+abbrev pub sourceValues : ℕ → ℕ → ℕ → List ℤ
+sourceValues row pixel channel = pos row ∷ pos pixel ∷ pos channel ∷ []
+
+-- "A refusal returns its number only", but for 10, which is to carry the place of the sample
 abbrev pub valuesOf : Refusal → List ℤ
-valuesOf r = []
+valuesOf Depth = []
+valuesOf Precision = []
+valuesOf CustomPair = []
+valuesOf WeightOff = []
+valuesOf CodeOutside = []
+valuesOf CustomUnchecked = []
+valuesOf Size = []
+valuesOf Stride = []
+valuesOf Length = []
+valuesOf (TooLarge p) = sourceValues (p .row) (p .pixel) (p .channel)
 
 -- ---- a table of tests
 

@@ -164,6 +164,14 @@ pub struct Weights {
     pub cr_b: i32,
 }
 
+// Where a colour sample of the source stands: rows and pixels count from 0; channel 0 is red, 1 green and 2 blue.
+#[repr(C)]
+pub struct SourcePlace {
+    pub row: u32,
+    pub pixel: u32,
+    pub channel: u32,
+}
+
 pub enum Refusal {
     Depth,
     Precision,
@@ -174,7 +182,7 @@ pub enum Refusal {
     Size,
     Stride,
     Length,
-    TooLarge,
+    TooLarge(SourcePlace),
 }
 
 impl Refusal {
@@ -192,7 +200,7 @@ impl Refusal {
             Refusal::Size => 7,
             Refusal::Stride => 8,
             Refusal::Length => 9,
-            Refusal::TooLarge => 10,
+            Refusal::TooLarge(_) => 10,
         }
     }
 }
@@ -221,11 +229,12 @@ pub enum Converted {
     Refused(Refusal),
 }
 
-// Where a sample stands: plane 0 is luma and 1 chroma; rows and elements count from 0.
+// Where a sample of a plane stands: plane 0 is luma and 1 chroma; rows and elements count from 0.
+#[repr(C)]
 pub struct Place {
-    pub plane: usize,
-    pub row: usize,
-    pub element: usize,
+    pub plane: u32,
+    pub row: u32,
+    pub element: u32,
 }
 
 // What check answers.

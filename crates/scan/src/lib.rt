@@ -16,7 +16,7 @@ use rules::Pixel;
 use rules::Search;
 use rules::YuvSourceChannels;
 
-pub fn is_found(s: Search) -> bool
+fn is_found(s: Search) -> bool
     ensures { λ r. ⌜ r ≡ isFound s ⌝ }
 {
     match s {

@@ -1,7 +1,11 @@
 -- `frame_check::check_settled` meets its contract. Assumes nothing.
 use borrow.Author.Needs.{needs}
-use mathlib.Core.Path.{sym, _∙_}
-use Rattle.frame_check.proofs.Joined.{luma-wrong, chroma-wrong, both-right}
+use mathlib.Core.Path.{_≡_, sym, _∙_}
+use native.Mathlib.Omega.{arith}
+use Rattle.rules.specs.Answers.{given, placeValues}
+use Rattle.plane_laws.proofs.Searches.{found-wrong}
+use Rattle.blocks.proofs.Tiles.{width-small, height-small}
+use Rattle.frame_check.proofs.Joined.{placed, luma-wrong, chroma-wrong, both-right}
 use Rattle.frame_check.proofs.check_settled.Statement.{statement}
 use Rattle.frame_check.proofs.check_settled.Tie as tie
 
@@ -17,8 +21,17 @@ walk-luma-requires c κs =
 enum-known-in-luma : tie.Need-enum-known-in-luma
 enum-known-in-luma c = search needs
 
+place-of-requires : tie.Need-place-of-requires
+place-of-requires c κs =
+    let y = c .before in
+    let w = found-wrong _ _ _ _ _ (sym (y .before .before .walk-luma .ensures) ∙ y .in-luma .given .1) in
+    let z = y .before .before .before .before .before .before .before .pre .1 .1 .sized in
+    (omega (arith, w .below, z .flat), omega (arith, w .inside, z .narrow))
+
 returns : tie.Need-returns
-returns c = let y = c .before in luma-wrong _ (sym (y .before .before .walk-luma .ensures) ∙ y .in-luma .given .1)
+returns c =
+    let y = c .before .before in
+    placed (c .place-of .ensures) ∙ luma-wrong _ (sym (y .before .before .walk-luma .ensures) ∙ y .in-luma .given .1)
 
 enum-told : tie.Need-enum-told
 enum-told c = search needs
@@ -33,12 +46,20 @@ walk-chroma-requires c κs =
 enum-known-in-chroma : tie.Need-enum-known-in-chroma
 enum-known-in-chroma c = search needs
 
+place-of-requires-2 : tie.Need-place-of-requires-2
+place-of-requires-2 c κs =
+    let k = c .before in
+    let w = found-wrong _ _ _ _ _ (sym (k .before .before .walk-chroma .ensures) ∙ k .in-chroma .given .1) in
+    let b = k .before .before .before .before .before .before .before .before .before .before in
+    let z = b .pre .1 .1 .sized in
+    (omega (arith, w .below, height-small (b .args .s .subsampling) (b .args .f .height), z .flat), omega (arith, w .inside, width-small (b .args .s .subsampling) (b .args .f .width), z .narrow))
+
 returns-2 : tie.Need-returns-2
 returns-2 c =
-    let k = c .before in
+    let k = c .before .before in
     let w = k .before .before in
     let n = w .before in
-    chroma-wrong (sym (n .before .before .walk-luma .ensures) ∙ n .enum-told .given .1) (sym (w .walk-chroma .ensures) ∙ k .in-chroma .given .1)
+    placed (c .place-of2 .ensures) ∙ chroma-wrong (sym (n .before .before .walk-luma .ensures) ∙ n .enum-told .given .1) (sym (w .walk-chroma .ensures) ∙ k .in-chroma .given .1)
 
 enum-told-2 : tie.Need-enum-told-2
 enum-told-2 c = search needs
@@ -56,10 +77,12 @@ check-settled-spec =
     limits-of-requires
     walk-luma-requires
     enum-known-in-luma
+    place-of-requires
     returns
     enum-told
     walk-chroma-requires
     enum-known-in-chroma
+    place-of-requires-2
     returns-2
     enum-told-2
     returns-3)

@@ -1,17 +1,18 @@
 -- `frame_refusals::frame_verdict` meets its contract. Assumes nothing.
 use borrow.Author.Needs.{needs}
-use mathlib.Core.Path.{_≡_, sym, ap, _∙_}
+use mathlib.Core.Path.{_≡_, sym, ap, _∙_, subst⁻¹}
 use mathlib.Core.Bool.{Bool, false}
 use Prim.Native.Nat.{ℕ}
 use native.Mathlib.Omega.{arith}
 use lib.ListN.{length}
-use Rattle.rules.specs.Ranges.{most}
-use Rattle.rules.specs.Search.{isFound}
-use Rattle.rules.specs.Frames.{sizeOff, strideOff, lengthOff, shown, tooLarge}
-use Rattle.rule_laws.proofs.Refusals.{end, stopped, skipped}
+use Rattle.rules.specs.Refusals.{first, lineOf}
+use Rattle.rules.specs.Frames.{sizeOff, strideOff, lengthOff, shown, tooLarge, placeLine, tooLargeLine, frameLines}
+use Rattle.rule_laws.proofs.Refusals.{alone, stopped, skipped}
 use Rattle.samples.proofs.Codes.{most-small}
 use Rattle.frames.specs.Tests.{Sized, Strided, Laid}
-use Rattle.frames.proofs.Tests.{sized, strided, laid, low-picture}
+use Rattle.frames.proofs.Tests.{sized, strided, laid, clear}
+use Rattle.frame_refusals.specs.Places.{WithinFrame}
+use Rattle.frame_refusals.proofs.Places.{found-within}
 use Rattle.frame_refusals.proofs.frame_verdict.Statement.{statement}
 use Rattle.frame_refusals.proofs.frame_verdict.Tie as tie
 
@@ -25,10 +26,10 @@ stride c t h = sym (c .stride-off .ensures) ∙ h
 long : (c : tie.After-length-off) (t : Bool) → c .length-off .result ≡ t → let v = c .before .before .before .before .before .before .args in lengthOff (v .s) (v .f) (length (v .source .now)) (v .luma) (v .chroma) ≡ t
 long c t h = sym (c .length-off .ensures) ∙ h
 
-large : (c : tie.After-is-found) (t : Bool) → c .is-found .result ≡ t → let v = c .before .before .before .before .before .before .before .before .before .before .args in isFound (tooLarge (most (v .s .depth)) (v .f) (shown (v .s) (v .f) (v .source .now))) ≡ t
-large c t h =
+large : (c : tie.After-place-verdict) → let v = c .before .before .before .before .before .before .before .before .before .before .args in lineOf (c .place-verdict .result) ≡ tooLargeLine (v .s) (v .f) (v .source .now)
+large c =
     let v = c .before .before .before .before .before .before .before .before .before .before .args in
-    sym (c .is-found .ensures ∙ ap isFound (c .before .too-large .ensures ∙ ap (λ (m : ℕ). tooLarge m (v .f) (shown (v .s) (v .f) (v .source .now))) (c .before .before .most .ensures))) ∙ h
+    c .place-verdict .ensures ∙ ap placeLine (c .before .too-large .ensures ∙ ap (λ (m : ℕ). tooLarge m (v .f) (shown (v .s) (v .f) (v .source .now))) (c .before .before .most .ensures))
 
 -- what each test that passed leaves
 size-in : (c : tie.Else1) → sizeOff (c .before .before .before .args .f) ≡ false
@@ -76,20 +77,21 @@ cast-m c = omega (arith, c .most .ensures, most-small (c .before .before .before
 too-large-requires : tie.Need-too-large-requires
 too-large-requires c κs = (size-left (c .before .before .before .before .before), long-left (c .before) .source)
 
-is-found-requires : tie.Need-is-found-requires
-is-found-requires c κs = search needs
+place-verdict-requires : tie.Need-place-verdict-requires
+place-verdict-requires c κs =
+    let v = c .before .before .before .before .before .before .before .before .before .args in
+    subst⁻¹ WithinFrame (c .too-large .ensures) (found-within _ (v .f) _ (size-left (c .before .before .before .before .before .before)))
+
+-- what the lines of the table come to, where the three before refusal 10 pass
+last-line : (c : tie.After-place-verdict) → let v = c .before .before .before .before .before .before .before .before .before .before .args in lineOf (c .place-verdict .result) ≡ first (frameLines (v .s) (v .f) (v .source .now) (v .luma) (v .chroma))
+last-line c =
+    large c
+    ∙ sym (skipped _ _ _ (size-in (c .before .before .before .before .before .before .before)) ∙ skipped _ _ _ (stride-in (c .before .before .before .before .before)) ∙ skipped _ _ _ (long-in (c .before .before .before)) ∙ alone _)
 
 returns-4 : tie.Need-returns-4
 returns-4 c =
-    (sym (skipped _ _ _ (size-in (c .before .before .before .before .before .before .before .before)) ∙ skipped _ _ _ (stride-in (c .before .before .before .before .before .before)) ∙ skipped _ _ _ (long-in (c .before .before .before .before)) ∙ stopped _ _ _ (large (c .before) _ (c .if4 .taken))), tt)
-
-returns-5 : tie.Need-returns-5
-returns-5 c =
-    let v = c .before .before .before .before .before .before .before .before .before .before .before .args in
-    let none = large (c .before) false (c .if4 .left) in (
-      sym (skipped _ _ _ (size-in (c .before .before .before .before .before .before .before .before)) ∙ skipped _ _ _ (stride-in (c .before .before .before .before .before .before)) ∙ skipped _ _ _ (long-in (c .before .before .before .before)) ∙ skipped _ _ _ none ∙ end),
-      record { sized = size-left (c .before .before .before .before .before .before .before .before); laid = long-left (c .before .before .before .before); low = low-picture (most (v .s .depth)) (v .f) _ none },
-    )
+    let v = c .before .before .before .before .before .before .before .before .before .before .args in
+    (last-line c, clear (v .s) (v .f) (v .source .now) (v .luma) (v .chroma) (c .place-verdict .result) (last-line c))
 
 pub frame-verdict-spec : {M : Type 1} → statement M
 frame-verdict-spec =
@@ -104,6 +106,5 @@ frame-verdict-spec =
     most-requires
     cast-m
     too-large-requires
-    is-found-requires
-    returns-4
-    returns-5)
+    place-verdict-requires
+    returns-4)
