@@ -15,8 +15,9 @@ use Rattle.rule_laws.proofs.Answers.{one-settled, one-converted, one-checked}
 use Rattle.numbers.specs.declared.Meant.{Meant}
 use Rattle.numbers.specs.declared.Meant.the-variants.{Nothing, These}
 use Rattle.answer_numbers.specs.declared.SettledNumbers.{SettledNumbers}
+use Rattle.answer_numbers.specs.declared.ConvertedNumbers.{ConvertedNumbers}
 use Rattle.answer_numbers.specs.declared.CheckedNumbers.{CheckedNumbers}
-use Rattle.answer_numbers.specs.AnswerNumbers.{weightless, settledNumbers, convertedNumber, told, checkedNumbers}
+use Rattle.answer_numbers.specs.AnswerNumbers.{weightless, settledNumbers, noSample, refusedFor, convertedNumbers, noPlace, told, checkedNumbers}
 use Rattle.ayresokum.specs.Calls.{unnamed, Told, SettleCall, ConvertCall, lumaCall, chromaCall, CheckCall}
 
 -- ---- settle
@@ -32,7 +33,7 @@ module _ {m : Meant} (r : SettledNumbers) where
 
 module _ (f : Frame) (source luma chroma : List ℕ) {m : Meant} where
   -- numbers that mean nothing: 18, and both planes as they were
-  pub unmeant : {n : ℕ} → m ≡ Nothing → n ≡ unnamed →
+  pub unmeant : {n : ConvertedNumbers} → m ≡ Nothing → n ≡ refusedFor unnamed noSample →
       ConvertCall m f source luma chroma n × ((luma ≡ lumaCall m f source luma chroma) × (chroma ≡ chromaCall m f source luma chroma))
   unmeant {n} e h = (
     subst⁻¹ (λ (x : Meant). ConvertCall x f source luma chroma n) e h,
@@ -42,12 +43,12 @@ module _ (f : Frame) (source luma chroma : List ℕ) {m : Meant} where
     ),
   )
 
-  pub untold : (r : CheckedNumbers) → m ≡ Nothing → r ≡ told unnamed 0 0 0 0 → CheckCall m f source luma chroma r
+  pub untold : (r : CheckedNumbers) → m ≡ Nothing → r ≡ told unnamed 0 noPlace noSample → CheckCall m f source luma chroma r
   untold r e h = subst⁻¹ (λ (x : Meant). CheckCall x f source luma chroma r) e h
 
   -- numbers that mean settings: what the service says of them
   module _ (s : Settings) (e : m ≡ These s) where
-    pub meant : {n : ℕ} (a : Converted) {l c : List ℕ} → n ≡ convertedNumber a → convertedAnswer a ≡ convert s f source luma chroma
+    pub meant : {n : ConvertedNumbers} (a : Converted) {l c : List ℕ} → n ≡ convertedNumbers a → convertedAnswer a ≡ convert s f source luma chroma
         → l ≡ lumaAfter s f source luma chroma → c ≡ chromaAfter s f source luma chroma
         → ConvertCall m f source luma chroma n × ((l ≡ lumaCall m f source luma chroma) × (c ≡ chromaCall m f source luma chroma))
     meant {n} a hn ha hl hc = (
@@ -71,9 +72,9 @@ pub one-settle-call : (m : Meant) (r q : SettledNumbers) → SettleCall m r → 
 one-settle-call Nothing r q a b = a ∙ sym b
 one-settle-call (These s) r q a b = one-told settledAnswer settledNumbers (settle s) one-settled r q a b
 
-pub one-convert-call : (m : Meant) (f : Frame) (source luma chroma : List ℕ) (r q : ℕ) → ConvertCall m f source luma chroma r → ConvertCall m f source luma chroma q → r ≡ q
+pub one-convert-call : (m : Meant) (f : Frame) (source luma chroma : List ℕ) (r q : ConvertedNumbers) → ConvertCall m f source luma chroma r → ConvertCall m f source luma chroma q → r ≡ q
 one-convert-call Nothing f source luma chroma r q a b = a ∙ sym b
-one-convert-call (These s) f source luma chroma r q a b = one-told convertedAnswer convertedNumber (convert s f source luma chroma) one-converted r q a b
+one-convert-call (These s) f source luma chroma r q a b = one-told convertedAnswer convertedNumbers (convert s f source luma chroma) one-converted r q a b
 
 pub one-check-call : (m : Meant) (f : Frame) (source luma chroma : List ℕ) (r q : CheckedNumbers) →
     CheckCall m f source luma chroma r → CheckCall m f source luma chroma q → r ≡ q

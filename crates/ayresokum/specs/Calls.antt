@@ -10,8 +10,13 @@ use Rattle.rules.specs.Check.{check}
 use Rattle.numbers.specs.declared.Meant.{Meant}
 use Rattle.numbers.specs.declared.Meant.the-variants.{Nothing, These}
 use Rattle.answer_numbers.specs.declared.SettledNumbers.{SettledNumbers}
+use Rattle.answer_numbers.specs.declared.ConvertedNumbers.{ConvertedNumbers}
 use Rattle.answer_numbers.specs.declared.CheckedNumbers.{CheckedNumbers}
-use Rattle.answer_numbers.specs.AnswerNumbers.{weightless, settledNumbers, convertedNumber, told, checkedNumbers}
+use Rattle.answer_numbers.specs.AnswerNumbers.{weightless, settledNumbers, noSample, refusedFor, convertedNumbers, noPlace, told, checkedNumbers}
+
+-- the number of the interface; it changes whenever a function's arguments or the layout of a record do
+abbrev pub version : ℕ
+version = 1
 
 -- the number of the refusal where a number names no case of its enumeration
 abbrev pub unnamed : ℕ
@@ -31,9 +36,9 @@ SettleCall (These s) r = Told settledAnswer settledNumbers (settle s) r
 
 -- ---- convert
 
-abbrev pub ConvertCall : Meant → Frame → List ℕ → List ℕ → List ℕ → ℕ → Type 0
-ConvertCall Nothing f source luma chroma r = r ≡ unnamed
-ConvertCall (These s) f source luma chroma r = Told convertedAnswer convertedNumber (convert s f source luma chroma) r
+abbrev pub ConvertCall : Meant → Frame → List ℕ → List ℕ → List ℕ → ConvertedNumbers → Type 0
+ConvertCall Nothing f source luma chroma r = r ≡ refusedFor unnamed noSample
+ConvertCall (These s) f source luma chroma r = Told convertedAnswer convertedNumbers (convert s f source luma chroma) r
 
 abbrev pub lumaCall : Meant → Frame → List ℕ → List ℕ → List ℕ → List ℕ
 lumaCall Nothing f source luma chroma = luma
@@ -46,5 +51,5 @@ chromaCall (These s) f source luma chroma = chromaAfter s f source luma chroma
 -- ---- check
 
 abbrev pub CheckCall : Meant → Frame → List ℕ → List ℕ → List ℕ → CheckedNumbers → Type 0
-CheckCall Nothing f source luma chroma r = r ≡ told unnamed 0 0 0 0
+CheckCall Nothing f source luma chroma r = r ≡ told unnamed 0 noPlace noSample
 CheckCall (These s) f source luma chroma r = Told checkedAnswer checkedNumbers (check s f source luma chroma) r

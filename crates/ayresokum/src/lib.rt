@@ -1,12 +1,21 @@
 // The exported functions: numbers in place of enumerations, structs by value, slices as a pointer and a length.
 ghost use mathlib.Core.Path.{_≡_};
 ghost use Rattle.numbers.specs.Numbers.{settingsOf};
-ghost use Rattle.ayresokum.specs.Calls.{SettleCall, ConvertCall, lumaCall, chromaCall, CheckCall};
+ghost use Rattle.ayresokum.specs.Calls.{version, SettleCall, ConvertCall, lumaCall, chromaCall, CheckCall};
 use answer_numbers::CheckedNumbers;
+use answer_numbers::ConvertedNumbers;
 use answer_numbers::SettledNumbers;
 use numbers::Meant;
 use numbers::SettingsNumbers;
 use rules::Frame;
+
+// The number of this interface, for a caller to compare with the one that it was written for.
+#[no_mangle]
+pub extern "C" fn ayresokum_version() -> u32
+    ensures { λ r. ⌜ r ≡ version ⌝ }
+{
+    1
+}
 
 #[no_mangle]
 pub extern "C" fn ayresokum_settle(settings: SettingsNumbers) -> SettledNumbers
@@ -26,17 +35,17 @@ pub extern "C" fn ayresokum_convert(
     source: &[u16],
     luma: &mut [u16],
     chroma: &mut [u16],
-) -> u32
+) -> ConvertedNumbers
     ensures answer { λ r. ⌜ ConvertCall (settingsOf settings) frame (now (source .entry)) (now (luma .entry)) (now (chroma .entry)) r ⌝ }
     ensures luma { λ r. ⌜ now (luma .exit) ≡ lumaCall (settingsOf settings) frame (now (source .entry)) (now (luma .entry)) (now (chroma .entry)) ⌝ }
     ensures chroma { λ r. ⌜ now (chroma .exit) ≡ chromaCall (settingsOf settings) frame (now (source .entry)) (now (luma .entry)) (now (chroma .entry)) ⌝ }
 {
     let meant = numbers::settings_of(settings);
     match meant {
-        Meant::Nothing => 18,
-        Meant::These(s) => {
-            answer_numbers::converted_number(rgb_to_nv_p16::convert(s, frame, source, luma, chroma))
-        }
+        Meant::Nothing => answer_numbers::refused_for(18, answer_numbers::no_sample()),
+        Meant::These(s) => answer_numbers::converted_numbers(rgb_to_nv_p16::convert(
+            s, frame, source, luma, chroma,
+        )),
     }
 }
 
@@ -52,7 +61,12 @@ pub extern "C" fn ayresokum_check(
 {
     let meant = numbers::settings_of(settings);
     match meant {
-        Meant::Nothing => answer_numbers::told(18, 0, 0, 0, 0),
+        Meant::Nothing => answer_numbers::told(
+            18,
+            0,
+            answer_numbers::no_place(),
+            answer_numbers::no_sample(),
+        ),
         Meant::These(s) => answer_numbers::checked_numbers(frame_check::check(
             s,
             frame,

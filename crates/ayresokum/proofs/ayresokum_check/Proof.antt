@@ -1,8 +1,9 @@
 -- `ayresokum::ayresokum_check` meets its contract. Assumes nothing.
 use borrow.Author.Needs.{needs}
 use mathlib.Core.Path.{sym, _∙_}
+use Rattle.answer_numbers.specs.AnswerNumbers.{told}
+use Rattle.ayresokum.specs.Calls.{unnamed}
 use Rattle.ayresokum.proofs.Calls.{untold, answered}
-use Rattle.ayresokum.proofs.Places.{placed}
 use Rattle.ayresokum.proofs.ayresokum_check.Statement.{statement}
 use Rattle.ayresokum.proofs.ayresokum_check.Tie as tie
 
@@ -11,6 +12,12 @@ settings-of-requires c κs = search needs
 
 enum-told : tie.Need-enum-told
 enum-told c = search needs
+
+no-place-requires : tie.Need-no-place-requires
+no-place-requires c κs = search needs
+
+no-sample-requires : tie.Need-no-sample-requires
+no-sample-requires c κs = search needs
 
 told-requires : tie.Need-told-requires
 told-requires c κs = search needs
@@ -22,10 +29,10 @@ check-requires : tie.Need-check-requires
 check-requires c κs = search needs
 
 checked-numbers-requires : tie.Need-checked-numbers-requires
-checked-numbers-requires c κs = let v = c .before .before .before .before .before .before .before .before .args in placed (c .before .before .meant .given .0 .0) (v .frame) (v .source .now) (v .luma .now) (v .chroma .now) (c .check .result) (c .check .ensures)
+checked-numbers-requires c κs = search needs
 
 returns : tie.Need-returns
-returns c = let v = c .before .before .before .before .before .before .before .args in untold (v .frame) (v .source .now) (v .luma .now) (v .chroma .now) _ (sym (c .before .before .before .settings-of .ensures) ∙ c .before .enum-told .given .1) (c .told .ensures)
+returns c = let v = c .before .before .before .before .before .before .before .before .before .args in untold (v .frame) (v .source .now) (v .luma .now) (v .chroma .now) _ (sym (c .before .before .before .before .before .settings-of .ensures) ∙ c .before .before .before .enum-told .given .1) (c .told .ensures ∙ (λ i. told unnamed 0 (c .before .before .no-place .ensures i) (c .before .no-sample .ensures i)))
 
 returns-2 : tie.Need-returns-2
 returns-2 c = let v = c .before .before .before .before .before .before .before .before .before .args in answered (v .frame) (v .source .now) (v .luma .now) (v .chroma .now) _ (sym (c .before .before .before .before .before .settings-of .ensures) ∙ c .before .before .before .meant .given .1) (c .before .check .result) (c .before .check .ensures) (c .checked-numbers .ensures)
@@ -36,6 +43,8 @@ ayresokum-check-spec =
     (tie.spec
     settings-of-requires
     enum-told
+    no-place-requires
+    no-sample-requires
     told-requires
     enum-known-meant
     check-requires
