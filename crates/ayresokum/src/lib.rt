@@ -44,7 +44,11 @@ pub extern "C" fn ayresokum_convert(
     match meant {
         Meant::Nothing => answer_numbers::refused_for(18, answer_numbers::no_sample()),
         Meant::These(s) => answer_numbers::converted_numbers(rgb_to_nv_p16::convert(
-            s, frame, source, luma, chroma,
+            s,
+            frame,
+            source,
+            luma,
+            chroma,
         )),
     }
 }

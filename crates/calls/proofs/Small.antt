@@ -16,8 +16,9 @@ use Rattle.rules.specs.Refusals.{numberOf}
 use Rattle.numbers.specs.declared.Meant.{Meant}
 use Rattle.numbers.specs.declared.Meant.the-variants.{Nothing, These}
 use Rattle.answer_numbers.specs.declared.SettledNumbers.{SettledNumbers}
+use Rattle.answer_numbers.specs.declared.ConvertedNumbers.{ConvertedNumbers}
 use Rattle.answer_numbers.specs.declared.CheckedNumbers.{CheckedNumbers}
-use Rattle.answer_numbers.specs.AnswerNumbers.{settledNumbers, convertedNumber, checkedNumbers}
+use Rattle.answer_numbers.specs.AnswerNumbers.{settledNumbers, convertedNumbers, checkedNumbers}
 use Rattle.ayresokum.specs.Calls.{SettleCall, ConvertCall, CheckCall}
 
 small-number : (r : Refusal) → numberOf r ≤ 18
@@ -30,7 +31,7 @@ small-number CustomUnchecked = lit≤ tt
 small-number Size = lit≤ tt
 small-number Stride = lit≤ tt
 small-number Length = lit≤ tt
-small-number TooLarge = lit≤ tt
+small-number (TooLarge p) = lit≤ tt
 
 -- ---- settle
 
@@ -44,14 +45,14 @@ small-settled (These s) r t = subst⁻¹ (λ (x : SettledNumbers). x .refusal �
 
 -- ---- convert
 
-small-case-converted : (a : Converted) → convertedNumber a ≤ 18
+small-case-converted : (a : Converted) → convertedNumbers a .refusal ≤ 18
 small-case-converted converted.Done = lit≤ tt
 small-case-converted (converted.Refused r) = small-number r
 
 module _ (f : Frame) (source luma chroma : List ℕ) where
-  pub small-converted : (m : Meant) (n : ℕ) → ConvertCall m f source luma chroma n → n ≤ 18
-  small-converted Nothing n e = subst⁻¹ (λ (x : ℕ). x ≤ 18) e (lit≤ tt)
-  small-converted (These s) n t = subst⁻¹ (λ (x : ℕ). x ≤ 18) (t .told) (small-case-converted (t .case))
+  pub small-converted : (m : Meant) (r : ConvertedNumbers) → ConvertCall m f source luma chroma r → r .refusal ≤ 18
+  small-converted Nothing r e = subst⁻¹ (λ (x : ConvertedNumbers). x .refusal ≤ 18) e (lit≤ tt)
+  small-converted (These s) r t = subst⁻¹ (λ (x : ConvertedNumbers). x .refusal ≤ 18) (t .told) (small-case-converted (t .case))
 
 -- ---- check
 

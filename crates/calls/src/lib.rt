@@ -4,6 +4,7 @@ ghost use Prim.Native.Nat.{_≤_};
 pub mod spot;
 
 use answer_numbers::CheckedNumbers;
+use answer_numbers::ConvertedNumbers;
 use answer_numbers::SettledNumbers;
 use cases::case;
 use cases::case::Case;
@@ -22,8 +23,8 @@ fn least(a: usize, b: usize) -> usize
     if a < b { a } else { b }
 }
 
-fn convert_parts(c: Case, source: &[u16], luma: &mut [u16], chroma: &mut [u16]) -> u32
-    ensures { λ r. ⌜ r ≤ 18 ⌝ }
+fn convert_parts(c: Case, source: &[u16], luma: &mut [u16], chroma: &mut [u16]) -> ConvertedNumbers
+    ensures { λ r. ⌜ r .refusal ≤ 18 ⌝ }
 {
     ayresokum::ayresokum_convert(
         case::settings_of(c),
@@ -34,8 +35,8 @@ fn convert_parts(c: Case, source: &[u16], luma: &mut [u16], chroma: &mut [u16]) 
     )
 }
 
-fn convert_first(c: Case, source: &[u16], luma: &mut [u16], chroma: &mut [u16]) -> u32
-    ensures { λ r. ⌜ r ≤ 18 ⌝ }
+fn convert_first(c: Case, source: &[u16], luma: &mut [u16], chroma: &mut [u16]) -> ConvertedNumbers
+    ensures { λ r. ⌜ r .refusal ≤ 18 ⌝ }
 {
     let n = least(c.source, source.len());
     let m = least(c.luma, luma.len());
@@ -43,8 +44,8 @@ fn convert_first(c: Case, source: &[u16], luma: &mut [u16], chroma: &mut [u16]) 
     convert_parts(c, &source[..n], &mut luma[..m], &mut chroma[..k])
 }
 
-pub fn convert(c: Case, source: &Room, luma: &mut Room, chroma: &mut Room) -> u32
-    ensures { λ r. ⌜ r ≤ 18 ⌝ }
+pub fn convert(c: Case, source: &Room, luma: &mut Room, chroma: &mut Room) -> ConvertedNumbers
+    ensures { λ r. ⌜ r .refusal ≤ 18 ⌝ }
 {
     convert_first(c, source, luma, chroma)
 }
@@ -78,7 +79,7 @@ pub fn check(c: Case, source: &Room, luma: &Room, chroma: &Room) -> CheckedNumbe
 
 // Checks and prints the answer; hands back how many numbers it has.
 pub fn check_and_put(c: Case, source: &Room, luma: &Room, chroma: &Room) -> usize
-    ensures { λ r. ⌜ r ≤ 3 ⌝ }
+    ensures { λ r. ⌜ r ≤ 4 ⌝ }
 {
     text::answer(check(c, source, luma, chroma))
 }

@@ -28,11 +28,12 @@ pub fn spot_at(plane: u32, row: u32, element: u32, at: usize) -> Spot
 }
 
 fn names(t: CheckedNumbers, spot: Spot) -> bool {
+    let p = t.place;
     t.refusal == 0
         && t.wrong == 1
-        && t.plane == spot.plane
-        && t.row == spot.row
-        && t.element == spot.element
+        && p.plane == spot.plane
+        && p.row == spot.row
+        && p.element == spot.element
 }
 
 // 1 where an answer names this very place, 0 where not.

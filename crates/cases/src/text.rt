@@ -6,7 +6,9 @@ use crate::case::Case;
 use crate::draw::Room;
 use crate::draw::within_room;
 use answer_numbers::CheckedNumbers;
+use answer_numbers::ConvertedNumbers;
 use libc::STDOUT_FILENO;
+use rules::SourcePlace;
 
 fn put(text: &[u8]) {
     io::write_all(STDOUT_FILENO, text);
@@ -71,25 +73,46 @@ pub fn case(c: Case) -> usize
     line(b"case", &numbers)
 }
 
+// A refusal, or 0, with the sample that refusal 10 carries.
+fn refusal(name: &[u8], number: u32, p: SourcePlace) -> usize
+    ensures { λ r. ⌜ r ≤ 4 ⌝ }
+{
+    if number == 10 {
+        return line(name, &[10, small(p.row), small(p.pixel), small(p.channel)]);
+    }
+    line(name, &[small(number)])
+}
+
+// Convert's answer.
+pub fn converted(t: ConvertedNumbers) -> usize
+    ensures { λ r. ⌜ r ≤ 4 ⌝ }
+{
+    refusal(b"answer", t.refusal, t.sample)
+}
+
 // A check's answer.
 pub fn answer(t: CheckedNumbers) -> usize
-    ensures { λ r. ⌜ r ≤ 3 ⌝ }
+    ensures { λ r. ⌜ r ≤ 4 ⌝ }
 {
     if t.refusal != 0 {
-        return line(b"refused", &[small(t.refusal)]);
+        return refusal(b"refused", t.refusal, t.sample);
     }
     if t.wrong != 0 {
-        return line(b"wrong", &[small(t.plane), small(t.row), small(t.element)]);
+        let p = t.place;
+        return line(b"wrong", &[small(p.plane), small(p.row), small(p.element)]);
     }
     line(b"accepted", &[])
 }
 
-// One step of a plane's checksum.
-fn mixed(sum: u32, v: u16) -> u32
-    requires { ⌜ sum < 65521 ⌝ }
+// One step of a checksum.
+pub fn mixed(sum: u32, n: u32) -> u32
     ensures { λ r. ⌜ r < 65521 ⌝ }
 {
-    (sum * 31 + (v as u32) + 1) % 65521
+    (sum % 65521 * 31 + n % 65536 + 1) % 65521
+}
+
+fn mixed_word(sum: u32, v: u16) -> u32 {
+    mixed(sum, v as u32)
 }
 
 fn checksum(plane: &Room, length: usize) -> u32
@@ -98,7 +121,7 @@ fn checksum(plane: &Room, length: usize) -> u32
     let mut sum = 0;
     let mut i = 0;
     while i < length {
-        sum = mixed(sum, plane[i]);
+        sum = mixed_word(sum, plane[i]);
         i += 1;
     }
     sum

@@ -1,6 +1,7 @@
 // Many answers of the check in three numbers: how many accept, how many name a sample, and a checksum of all of them.
-ghost use Prim.Native.Nat.{_<_};
 use answer_numbers::CheckedNumbers;
+use cases::text::mixed;
+use rules::Place;
 
 pub(crate) struct Answers {
     pub accepted: usize,
@@ -23,15 +24,8 @@ fn more(n: usize, one: bool) -> usize {
     n
 }
 
-// One step of the checksum.
-fn mixed(sum: u32, n: u32) -> u32
-    ensures { λ r. ⌜ r < 65521 ⌝ }
-{
-    (sum % 65521 * 31 + n % 65536 + 1) % 65521
-}
-
-fn mixed_place(sum: u32, t: CheckedNumbers) -> u32 {
-    mixed(mixed(mixed(sum, t.plane), t.row), t.element)
+fn mixed_place(sum: u32, p: Place) -> u32 {
+    mixed(mixed(mixed(sum, p.plane), p.row), p.element)
 }
 
 // The answers with one more.
@@ -39,6 +33,6 @@ pub(crate) fn with_answer(a: Answers, t: CheckedNumbers) -> Answers {
     Answers {
         accepted: more(a.accepted, t.refusal == 0 && t.wrong == 0),
         wrong: more(a.wrong, t.refusal == 0 && t.wrong == 1),
-        sum: mixed_place(mixed(mixed(a.sum, t.refusal), t.wrong), t),
+        sum: mixed_place(mixed(mixed(a.sum, t.refusal), t.wrong), t.place),
     }
 }

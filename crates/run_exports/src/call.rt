@@ -1,11 +1,14 @@
 // One case: the answers of settle, convert and check, each with all its numbers, and both planes.
 use answer_numbers::CheckedNumbers;
+use answer_numbers::ConvertedNumbers;
 use answer_numbers::SettledNumbers;
 use cases::case::Case;
 use cases::draw;
 use cases::draw::Room;
 use cases::text;
 use libc::STDOUT_FILENO;
+use rules::Place;
+use rules::SourcePlace;
 use weight_nearness::sizes;
 
 fn put(text: &[u8]) {
@@ -41,19 +44,35 @@ fn put_settled(t: SettledNumbers) {
     put(b"\n");
 }
 
+fn put_sample(p: SourcePlace) {
+    put_number(p.row);
+    put_number(p.pixel);
+    put_number(p.channel);
+    put(b"\n");
+}
+
+fn put_converted(t: ConvertedNumbers) {
+    put(b"converted");
+    put_number(t.refusal);
+    put_sample(t.sample);
+}
+
+fn put_place(p: Place) {
+    put_number(p.plane);
+    put_number(p.row);
+    put_number(p.element);
+}
+
 fn put_checked(t: CheckedNumbers) {
     put(b"checked");
     put_number(t.refusal);
     put_number(t.wrong);
-    put_number(t.plane);
-    put_number(t.row);
-    put_number(t.element);
-    put(b"\n");
+    put_place(t.place);
+    put_sample(t.sample);
 }
 
 fn convert_and_check(c: Case, source: &Room, luma: &mut Room, chroma: &mut Room) {
-    let number = calls::convert(c, source, luma, chroma);
-    text::line(b"answer", &[text::small(number)]);
+    put_converted(calls::convert(c, source, luma, chroma));
     text::planes(c, luma, chroma);
     put_checked(calls::check(c, source, luma, chroma));
 }

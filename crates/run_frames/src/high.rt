@@ -2,6 +2,7 @@
 // the sample is alpha or padding.
 ghost use Prim.Native.Nat.{_≤_, _<_};
 use answer_numbers::CheckedNumbers;
+use answer_numbers::ConvertedNumbers;
 use cases::case::Case;
 use cases::draw;
 use cases::draw::Room;
@@ -9,13 +10,18 @@ use cases::planes::get;
 use cases::planes::index;
 use cases::planes::put;
 use cases::text;
+use cases::text::mixed;
+use rules::SourcePlace;
 
-// How many frames convert and check refuse as 10, and how many convert takes and check accepts.
+// How many frames convert and check refuse as 10, how many convert takes and check accepts, and a checksum of the places that convert
+// and check name.
 struct Tally {
     refused: usize,
     refused_by_check: usize,
     done: usize,
     accepted: usize,
+    places: u32,
+    places_by_check: u32,
 }
 
 fn more(n: usize, one: bool) -> usize {
@@ -29,12 +35,22 @@ fn is_accepted(t: CheckedNumbers) -> bool {
     t.refusal == 0 && t.wrong == 0
 }
 
-fn counted(tally: Tally, number: u32, t: CheckedNumbers) -> Tally {
+// A checksum with one place more, where a sample is named.
+fn with_place(sum: u32, refusal: u32, p: SourcePlace) -> u32 {
+    if refusal == 10 {
+        return mixed(mixed(mixed(sum, p.row), p.pixel), p.channel);
+    }
+    sum
+}
+
+fn counted(tally: Tally, n: ConvertedNumbers, t: CheckedNumbers) -> Tally {
     Tally {
-        refused: more(tally.refused, number == 10),
+        refused: more(tally.refused, n.refusal == 10),
         refused_by_check: more(tally.refused_by_check, t.refusal == 10),
-        done: more(tally.done, number == 0),
+        done: more(tally.done, n.refusal == 0),
         accepted: more(tally.accepted, is_accepted(t)),
+        places: with_place(tally.places, n.refusal, n.sample),
+        places_by_check: with_place(tally.places_by_check, t.refusal, t.sample),
     }
 }
 
@@ -45,9 +61,9 @@ fn convert_and_check(
     chroma: &mut Room,
     tally: Tally,
 ) -> Tally {
-    let number = calls::convert(c, source, luma, chroma);
+    let n = calls::convert(c, source, luma, chroma);
     let t = calls::check(c, source, luma, chroma);
-    counted(tally, number, t)
+    counted(tally, n, t)
 }
 
 // A sample put at an index, and put back.
@@ -158,7 +174,15 @@ fn try_pixels(
 fn put_tally(row: usize, t: Tally) {
     text::line(
         b"high",
-        &[row, t.refused, t.refused_by_check, t.done, t.accepted],
+        &[
+            row,
+            t.refused,
+            t.refused_by_check,
+            t.done,
+            t.accepted,
+            text::small(t.places),
+            text::small(t.places_by_check),
+        ],
     );
 }
 
@@ -170,6 +194,8 @@ fn try_row(c: Case, source: &mut Room, luma: &mut Room, chroma: &mut Room, row: 
         refused_by_check: 0,
         done: 0,
         accepted: 0,
+        places: 0,
+        places_by_check: 0,
     };
     put_tally(row, try_pixels(c, source, luma, chroma, row, last, none));
 }

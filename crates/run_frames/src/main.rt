@@ -3,6 +3,7 @@
 ghost use Prim.Native.Nat.{_≤_, _<_};
 use cases::case;
 
+mod from;
 mod high;
 mod run;
 
@@ -131,6 +132,45 @@ fn samples() {
     run_sample(1, 24, 65535);
     run_sample(2, 3, 65535);
     run_sample(2, 12, 65535);
+}
+
+// The last sample of the widest and of the highest frame too large, and of a frame of one pixel.
+fn run_last(width: usize, height: usize, at: usize)
+    requires { ⌜ (width ≤ 20000) × (height ≤ 20000) ⌝ }
+{
+    let mut c = case::base();
+    c.seed = 6;
+    let mut d = case::laid(c, width, height, 0);
+    d.at = at;
+    d.sample = 1024;
+    run::run(d);
+}
+
+fn last_samples() {
+    run_last(16384, 1, 49151);
+    run_last(1, 16384, 49151);
+    run_last(1, 1, 2);
+}
+
+// A 3×3 frame with padding in each channel layout, at 10 bits; then at 15 and at 16, where no sample is too large.
+fn run_from(depth: u32, channels: u32) {
+    let mut c = case::base();
+    c.depth = depth;
+    c.matrix = 1;
+    c.channels = channels;
+    c.seed = 7;
+    let d = case::laid(c, 3, 3, 2);
+    run::run(d);
+    from::run(d);
+}
+
+fn first_samples() {
+    run_from(10, 0);
+    run_from(10, 1);
+    run_from(10, 2);
+    run_from(10, 3);
+    run_from(15, 1);
+    run_from(16, 1);
 }
 
 fn run_settings(depth: u32, precision: u32, matrix: u32, width: usize) {
@@ -291,4 +331,6 @@ fn main() {
     sweep_layouts();
     sweep_depths();
     sweep_high();
+    last_samples();
+    first_samples();
 }

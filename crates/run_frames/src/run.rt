@@ -6,8 +6,7 @@ use cases::planes::put;
 use cases::text;
 
 fn convert_and_put(c: Case, source: &Room, luma: &mut Room, chroma: &mut Room) {
-    let number = calls::convert(c, source, luma, chroma);
-    text::line(b"answer", &[text::small(number)]);
+    text::converted(calls::convert(c, source, luma, chroma));
     text::planes(c, luma, chroma);
 }
 

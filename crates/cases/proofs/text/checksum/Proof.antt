@@ -1,11 +1,11 @@
 -- `cases::text::checksum` meets its contract. Assumes nothing.
 use borrow.Author.Needs.{needs}
-use Prim.Native.Nat.{_≤_, _<_, _-_}
+use Prim.Native.Nat.{_≤_, _-_}
 use Rattle.cases.proofs.text.checksum.Statement.{statement}
 use Rattle.cases.proofs.text.checksum.Tie as tie
 
 abbrev Inv-loop : tie.InvT-loop
-Inv-loop plane length sum₀ i₀ sum i = (i ≤ length) × (length ≤ 65540) × (sum < 65521)
+Inv-loop plane length sum₀ i₀ sum i = (i ≤ length) × (length ≤ 65540)
 
 abbrev μ-loop : tie.MeasureT-loop
 μ-loop plane length sum₀ i₀ sum i = length - i
@@ -13,14 +13,14 @@ abbrev μ-loop : tie.MeasureT-loop
 loop-holds : tie.Need-loop-holds Inv-loop μ-loop
 loop-holds c = search needs
 
-mul-mixed : tie.Need-mul-mixed Inv-loop μ-loop
-mul-mixed c = search needs
+mul-mixed-word : tie.Need-mul-mixed-word Inv-loop μ-loop
+mul-mixed-word c = search needs
 
-element-copy-out-mixed : tie.Need-element-copy-out-mixed Inv-loop μ-loop
-element-copy-out-mixed c = search needs
+element-copy-out-mixed-word : tie.Need-element-copy-out-mixed-word Inv-loop μ-loop
+element-copy-out-mixed-word c = search needs
 
-mixed-requires : tie.Need-mixed-requires Inv-loop μ-loop
-mixed-requires c κs = search needs
+mixed-word-requires : tie.Need-mixed-word-requires Inv-loop μ-loop
+mixed-word-requires c κs = search needs
 
 add-i : tie.Need-add-i Inv-loop μ-loop
 add-i c = search needs
@@ -41,9 +41,9 @@ checksum-spec =
     Inv-loop
     μ-loop
     loop-holds
-    mul-mixed
-    element-copy-out-mixed
-    mixed-requires
+    mul-mixed-word
+    element-copy-out-mixed-word
+    mixed-word-requires
     add-i
     loop-less
     loop-again
