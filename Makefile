@@ -1,4 +1,4 @@
-# make lib       build/libayresokum.a and build/libayresokum.so
+# make lib       build/libayresokum.a, and build/libayresokum.so, a link to the shared library of the header's version
 # make demo      a temper-colour ramp converted, checked, spoiled and checked again
 # make examples  the programs of examples/, and the header as C99 and as C++17
 # make outputs   what the programs have to print, worked out afresh from document 01 (compare/*.py)
@@ -9,6 +9,7 @@ CC ?= cc
 CXX ?= c++
 STRICT = -Wall -Wextra -pedantic -Werror
 RULES = $(shell find crates -name '*.rt' -o -name '*.antt') crates.txt
+SHARED := libayresokum.so.$(shell awk '/define AYRESOKUM_VERSION/ { print $$3 }' include/ayresokum.h)
 
 .PHONY: lib demo examples outputs output-settings output-frames output-checks output-exports calls rust test clean
 
@@ -19,8 +20,15 @@ build/libayresokum.a: $(RULES)
 	rt staticlib ayresokum > build/staticlib.log 2>&1 || (cat build/staticlib.log; false)
 	cp target/staticlib/libayresokum.a $@
 
-build/libayresokum.so: build/libayresokum.a
-	$(CC) -shared -o $@ -Wl,--whole-archive $< -Wl,--no-whole-archive -Wl,-soname,libayresokum.so
+build/$(SHARED): build/libayresokum.a
+	$(CC) -shared -o $@ -Wl,--whole-archive $< -Wl,--no-whole-archive -Wl,-soname,$(SHARED)
+
+build/libayresokum.so: build/$(SHARED)
+	ln -sf $(SHARED) $@
+
+build/%.so: compare/stubs/%.c include/ayresokum.h
+	mkdir -p build
+	$(CC) -std=c99 $(STRICT) -Iinclude -shared -fPIC -o $@ $<
 
 build/%: examples/%.c include/ayresokum.h build/libayresokum.a
 	$(CC) -std=c99 -O2 $(STRICT) -Iinclude -o $@ $< build/libayresokum.a
@@ -48,7 +56,7 @@ output-checks:
 output-exports:
 	python3 compare/exports.py crates/run_exports/stdout
 
-calls: build/libayresokum.so
+calls: build/libayresokum.so build/other_version.so build/no_version.so
 	python3 compare/boundary.py
 	python3 compare/calls.py
 

@@ -1,7 +1,7 @@
 #!/usr/bin/env python3
 """boundary.py: holds the four places that declare the exported functions against each other: the Rattle sources, the C header,
-rust/src/raw.rs and library.py. Functions, arguments and the fields of each record must be the same, and so must the numbers of refusals
-and of the enumerations' cases where they stand."""
+rust/src/raw.rs and library.py. Functions, arguments and the fields of each record must be the same, and so must the version, and the
+numbers of refusals and of the enumerations' cases where they stand."""
 import ctypes
 import os
 import re
@@ -109,7 +109,7 @@ def header():
         records[record_name(name)] = [field for part in parts(body, ';') for field in c_fields(part)]
     functions = {}
     for answer, name, arguments in re.findall(r'^(\w+) (ayresokum_\w+)\((.*?)\);', text, re.S | re.M):
-        taken = [field for part in parts(arguments, ',') for field in c_fields(part)]
+        taken = [field for part in parts(arguments.removesuffix('void'), ',') for field in c_fields(part)]
         functions[name] = taken, C_TYPES.get(answer) or record_name(answer)
     return Declared('include/ayresokum.h', records, functions)
 
@@ -175,16 +175,34 @@ def case_numbers():
               'rust/src/settings.rs, numbers.rs': [re.findall(r'(\w+) = (\d+)', body) for body in enums]
               + [re.findall(r'YuvStandardMatrix::(\w+).*? => \((\d+)', read('rust/src/numbers.rs'))],
               'include/ayresokum.h': [re.findall(r'AYRESOKUM_(\w+) = (\d+)', body) for kind, body in c_enums
-                                      if kind not in ('refusal', 'plane')]}
+                                      if kind not in ('refusal', 'plane', 'channel')]}
     return {place: {case: n for cases in found for case, n in numbered(cases).items()} for place, found in places.items()}
+
+
+def answer_numbers():
+    """The numbers of planes and channels, which answers have."""
+    c_enums = re.findall(r'enum ayresokum_(?:plane|channel) \{(.*?)\}', read('include/ayresokum.h'), re.S)
+    arms = re.findall(r'(\d+) => (?:Plane|Channel)::(\w+)', read('rust/src/check.rs') + read('rust/src/source_place.rs'))
+    return {'rust/src/check.rs, source_place.rs': numbered((name, n) for n, name in arms),
+            'include/ayresokum.h': numbered(re.findall(r'AYRESOKUM_(\w+) = (\d+)', ''.join(c_enums)))}
 
 
 def refusal_numbers():
     """The numbers of refusals, by place. Only a call by numbers can meet 18, so Rattle's rules lack it; the header has 0 for none."""
     c_enum = re.search(r'enum ayresokum_refusal \{(.*?)\}', read('include/ayresokum.h'), re.S)[1]
-    return {'crates/rules/src/lib.rt': numbered(re.findall(r'Refusal::(\w+) => (\d+)', read('crates/rules/src/lib.rt'))) | {'UNNAMED': 18},
-            'rust/src/refusal.rs': numbered(re.findall(r'^    (\w+) = (\d+),', read('rust/src/refusal.rs'), re.M)),
+    arm = r'Refusal::(\w+)(?:\(_\))? => (\d+)'
+    return {'crates/rules/src/lib.rt': numbered(re.findall(arm, read('crates/rules/src/lib.rt'))) | {'UNNAMED': 18},
+            'rust/src/refusal.rs': numbered(re.findall(arm, read('rust/src/refusal.rs'))),
             'include/ayresokum.h': numbered(re.findall(r'AYRESOKUM_(\w+) = ([1-9]\d*)', c_enum))}
+
+
+def version_numbers():
+    """The number of the interface, by place: the Rattle function's whole body, and a constant elsewhere."""
+    places = {'crates/ayresokum/src/lib.rt': r'fn ayresokum_version\(\) -> u32.*?^\{\s*(\d+)\s*^\}',
+              'rust/src/raw.rs': r'const VERSION: u32 = (\d+);',
+              'include/ayresokum.h': r'#define AYRESOKUM_VERSION (\d+)'}
+    found = {place: re.findall(pattern, read(place), re.S | re.M) for place, pattern in places.items()}
+    return {place: {'version': int(n) for n in numbers} for place, numbers in found.items()} | {'compare/library.py': {'version': library.VERSION}}
 
 
 def number_differences(numbers):
@@ -196,13 +214,13 @@ def number_differences(numbers):
 def main():
     c = header()
     wrong = [line for other in (rattle(), rust(), python()) for line in differences(c, other)]
-    cases, refusals = case_numbers(), refusal_numbers()
-    wrong += number_differences(cases) + number_differences(refusals)
+    numbers = case_numbers(), answer_numbers(), refusal_numbers(), version_numbers()
+    wrong += [line for of_places in numbers for line in number_differences(of_places)]
     for line in wrong:
         print(line)
-    counts = [len(c.functions), len(c.crossing()), *(len(numbers['include/ayresokum.h']) for numbers in (cases, refusals))]
-    print('the boundary in Rattle, C, Rust and Python: {} functions, {} records, {} cases of enumerations, {} refusals,'.format(*counts),
-          len(wrong), 'differences')
+    counts = [len(c.functions), len(c.crossing()), *(len(of_places['include/ayresokum.h']) for of_places in numbers)]
+    print('the boundary in Rattle, C, Rust and Python: {} functions, {} records, {} cases of settings, {} of answers, {} refusals, {} version,'
+          .format(*counts), len(wrong), 'differences')
     sys.exit(1 if wrong or 0 in counts else 0)
 
 

@@ -1,10 +1,12 @@
 #!/usr/bin/env python3
 """calls.py: the exported functions called through ctypes: document 01's whole frames, J's weights, limits, empty buffers, and random
-settings held against the model."""
+settings and samples that are too large held against the model; and two libraries of other versions, which must not load."""
+import os
 import random
 
 import model
-from library import Frame, Library, Settings, samples
+from cases import padded
+from library import PATH, VERSION, Frame, Library, OtherVersion, Settings, samples
 
 J = (10, 13, 0, 0.0, 0.0, 1, 0, 0, 1, 1, 0)
 J_WEIGHTS = [2449, 4809, 934, -1382, -2714, 4096, 4096, -3430, -666]
@@ -12,25 +14,31 @@ ROW = [1023, 0, 0, 0, 0, 1023, 1023, 1023, 1023]
 GREATEST = 2 ** 64 - 1
 
 
+def numbers_of(record):
+    """The numbers of a record's fields, those of a record within it in its place."""
+    numbers = []
+    for name, kind in record._fields_:
+        field = getattr(record, name)
+        numbers += numbers_of(field) if hasattr(kind, '_fields_') else [field]
+    return numbers
+
+
 def whole_frame(library, rows):
     frame, source = Frame(3, rows, 9, 4, 6), samples(ROW * rows)
     luma, chroma = samples([7] * 4 * rows), samples([7] * 6)
-    assert library.convert(Settings(*J), frame, source, luma, chroma) == 0
+    assert numbers_of(library.convert(Settings(*J), frame, source, luma, chroma)) == [0, 0, 0, 0]
     assert luma[:] == [306, 117, 1023, 7] * rows and chroma[:] == [682, 726, 512, 512, 7, 7]
-    answer = library.check(Settings(*J), frame, source, luma, chroma)
-    assert (answer.refusal, answer.wrong) == (0, 0)
+    assert numbers_of(library.check(Settings(*J), frame, source, luma, chroma)) == [0, 0, 0, 0, 0, 0, 0, 0]
     luma[4 * rows - 2] = 0
-    answer = library.check(Settings(*J), frame, source, luma, chroma)
-    assert (answer.refusal, answer.wrong, answer.plane, answer.row, answer.element) == (0, 1, 0, rows - 1, 2)
+    assert numbers_of(library.check(Settings(*J), frame, source, luma, chroma)) == [0, 1, 0, rows - 1, 2, 0, 0, 0]
 
 
 def refused(library, settings, frame, number):
     """Both services, with buffers of the lengths of a 3 x 1 frame and with empty ones; nothing is touched."""
     for lengths in ((9, 4, 6), (0, 0, 0)):
         source, luma, chroma = (samples([7] * n) for n in lengths)
-        expected = number if lengths[0] or number != 10 else 9
-        assert library.convert(settings, frame, source, luma, chroma) == expected
-        assert library.check(settings, frame, source, luma, chroma).refusal == expected
+        assert numbers_of(library.convert(settings, frame, source, luma, chroma)) == padded([number], 4)
+        assert numbers_of(library.check(settings, frame, source, luma, chroma)) == padded([number], 8)
         assert luma[:] == [7] * lengths[1] and chroma[:] == [7] * lengths[2]
 
 
@@ -67,13 +75,52 @@ def settled(library, draw, count):
         assert library.settle(Settings(depth, precision, matrix, 0.0, 0.0, full, *J[6:])) == expected
 
 
+def drawn(draw):
+    """Settings and a frame of at most 6 x 5, and a source in which few, many or all samples are 65535, alpha and padding among them."""
+    depth, subsampling, channels = draw.randint(10, 16), draw.randint(0, 2), draw.randint(0, 3)
+    s = model.Settings(depth, 13, 'Bt709', False, subsampling, 0, 1, 1, channels)
+    width, height = draw.randint(1, 6), draw.randint(1, 5)
+    f = model.Frame(width, height, width * model.COUNT[channels] + draw.randint(0, 2), width, s.chroma_size(width, height)[0])
+    share = draw.choice((0.02, 0.1, 0.5, 1))
+    return s, f, [65535 if draw.random() < share else draw.randint(0, s.m()) for _ in range(f.height * f.source_stride)]
+
+
+def too_large(library, draw, count):
+    """The place of refusal 10 by convert and by check, and both planes, which a refusal leaves as they were. Gives how many were refused."""
+    refused_count = 0
+    for _ in range(count):
+        s, f, source = drawn(draw)
+        planes = [7] * f.height * f.luma_stride, [7] * s.chroma_size(f.width, f.height)[1] * f.chroma_stride
+        refusal, *right = model.convert(s, f, source, *planes)
+        settings = Settings(s.depth, s.precision, 1, 0.0, 0.0, 0, s.subsampling, s.order, s.packing, s.endianness, s.channels)
+        call = settings, Frame(f.width, f.height, f.source_stride, f.luma_stride, f.chroma_stride), samples(source), *map(samples, planes)
+        assert numbers_of(library.convert(*call)) == padded(refusal, 4)
+        assert [plane[:] for plane in call[3:]] == right
+        assert numbers_of(library.check(*call)) == padded(refusal[:1], 5) + padded(refusal[1:], 3)
+        refused_count += refusal[:1] == (10,)
+    return refused_count
+
+
+def assert_not_loaded(name, found):
+    path = os.path.join(os.path.dirname(PATH), name)
+    try:
+        Library(path)
+    except OtherVersion as error:
+        assert str(error) == f'{path} has {found}, and library.py was written for interface {VERSION}: build both from one commit'
+    else:
+        assert False, f'{path} was loaded'
+
+
 def main():
+    assert_not_loaded('other_version.so', f'interface {VERSION + 1}')
+    assert_not_loaded('no_version.so', 'no ayresokum_version')
     library = Library()
     assert library.settle(Settings(*J)) == (0, J_WEIGHTS)
     whole_frame(library, 1)
     whole_frame(library, 2)
     limits(library)
     settled(library, random.Random(2026), 2000)
+    assert too_large(library, random.Random(2026), 1000) > 500
     print('calls from Python: as they should be')
 
 

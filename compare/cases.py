@@ -47,14 +47,31 @@ def line_of(name, numbers):
     return ' '.join([name] + [str(n) for n in numbers])
 
 
+def checksum(numbers):
+    total = 0
+    for v in numbers:
+        total = (total * 31 + v + 1) % 65521
+    return total
+
+
 def shown(name, plane):
     """A plane's line: its words, or a checksum of many."""
-    if len(plane) <= 256:
-        return line_of(name, plane)
-    total = 0
-    for v in plane:
-        total = (total * 31 + v + 1) % 65521
-    return f'{name} sum {total}'
+    return line_of(name, plane) if len(plane) <= 256 else f'{name} sum {checksum(plane)}'
+
+
+def padded(numbers, count):
+    """So many numbers: those that apply, then 0."""
+    return [*numbers] + [0] * (count - len(numbers))
+
+
+def checked_numbers(answer):
+    """An answer of check as the exported function gives it: refusal, wrong, the plane, row and element of the wrong sample, and the row,
+    pixel and channel of the one that is too large."""
+    word, *numbers = answer.split()
+    numbers = [int(n) for n in numbers]
+    if word == 'refused':
+        return padded(numbers[:1], 5) + padded(numbers[1:], 3)
+    return padded([0, 1, *numbers] if word == 'wrong' else [], 8)
 
 
 def differing(lines, right):

@@ -3,7 +3,7 @@
 import sys
 from math import ceil, floor
 
-from cases import MATRICES, Case, counted, differing, line_of
+from cases import MATRICES, Case, checked_numbers, checksum, counted, differing, line_of
 from model import (COUNT, PLACES, Frame, Settings, block, check, convert, exact_chroma, exact_luma, formed, pixel, tolerance)
 
 
@@ -54,12 +54,9 @@ def at_tolerance(numbers):
 
 
 def in_all(answers):
-    """How many answers accept, how many name a sample, and a checksum of all of them."""
-    total = 0
-    for answer in answers:
-        word, *place = answer.split()
-        for n in [0, 0, 0, 0, 0] if word == 'accepted' else [0, 1, *place] if word == 'wrong' else [*place, 0, 0, 0, 0]:
-            total = (total * 31 + int(n) + 1) % 65521
+    """How many answers accept, how many name a wrong sample, and a checksum of the refusal, of whether a sample is wrong and of its place
+    in all of them."""
+    total = checksum(n for answer in answers for n in checked_numbers(answer)[:5])
     return [sum(answer == 'accepted' for answer in answers), sum(answer.startswith('wrong') for answer in answers), total]
 
 
@@ -134,7 +131,7 @@ def work_out(lines):
         if name == 'case':
             c = Case(line)
             source = c.source()
-            number, luma, chroma = convert(c.settings, c.frame, source, *c.planes())
+            luma, chroma = convert(c.settings, c.frame, source, *c.planes())[1:]
             yield line
         elif name == 'words':
             yield line_of(name, numbers[:3] + words(c.settings, c.frame, source, *numbers[:3]))

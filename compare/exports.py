@@ -2,7 +2,7 @@
 """exports.py FILE: works out every call of FILE, the output of the program run_exports, afresh and says which differ."""
 import sys
 
-from cases import Case, differing, line_of, shown
+from cases import Case, checked_numbers, differing, line_of, padded, shown
 from model import check, convert
 
 UNNAMED = 18
@@ -15,19 +15,15 @@ def settled(c):
 
 
 def checked(c, source, luma, chroma):
-    """The refusal, whether a sample is wrong, its plane, row and element; what does not apply is 0."""
-    if not c.named:
-        return [UNNAMED, 0, 0, 0, 0]
-    word, *numbers = check(c.settings, c.frame, source, luma, chroma).split()
-    numbers = [int(n) for n in numbers]
-    return {'accepted': [0, 0, 0, 0, 0], 'wrong': [0, 1, *numbers], 'refused': [*numbers, 0, 0, 0, 0]}[word]
+    """All numbers of check's answer; what does not apply is 0."""
+    return checked_numbers(check(c.settings, c.frame, source, luma, chroma) if c.named else f'refused {UNNAMED}')
 
 
 def work_out(case):
     c = Case(case)
     source = c.source()
-    number, luma, chroma = convert(c.settings, c.frame, source, *c.planes()) if c.named else (UNNAMED, *c.planes())
-    return [case, line_of('settled', settled(c)), f'answer {number}', shown('luma', luma), shown('chroma', chroma),
+    refusal, luma, chroma = convert(c.settings, c.frame, source, *c.planes()) if c.named else ((UNNAMED,), *c.planes())
+    return [case, line_of('settled', settled(c)), line_of('converted', padded(refusal, 4)), shown('luma', luma), shown('chroma', chroma),
             line_of('checked', checked(c, source, luma, chroma))]
 
 

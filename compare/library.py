@@ -1,7 +1,9 @@
-"""The exported functions through ctypes, from build/libayresokum.so, which `make lib` writes."""
+"""The exported functions through ctypes, from build/libayresokum.so, which `make lib` writes. A library of another interface is not
+called: its records would be misread."""
 import ctypes
 import os
 
+VERSION = 1
 PATH = os.path.join(os.path.dirname(os.path.dirname(os.path.abspath(__file__))), 'build', 'libayresokum.so')
 WEIGHTS = ('yr', 'yg', 'yb', 'cb_r', 'cb_g', 'cb_b', 'cr_r', 'cr_g', 'cr_b')
 
@@ -20,23 +22,48 @@ class Settled(ctypes.Structure):
     _fields_ = [('refusal', ctypes.c_uint32)] + [(name, ctypes.c_int32) for name in WEIGHTS]
 
 
+class Sample(ctypes.Structure):
+    _fields_ = [(name, ctypes.c_uint32) for name in ('row', 'pixel', 'channel')]
+
+
+class Place(ctypes.Structure):
+    _fields_ = [(name, ctypes.c_uint32) for name in ('plane', 'row', 'element')]
+
+
+class Converted(ctypes.Structure):
+    _fields_ = [('refusal', ctypes.c_uint32), ('sample', Sample)]
+
+
 class Checked(ctypes.Structure):
-    _fields_ = [(name, ctypes.c_uint32) for name in ('refusal', 'wrong', 'plane', 'row', 'element')]
+    _fields_ = [('refusal', ctypes.c_uint32), ('wrong', ctypes.c_uint32), ('place', Place), ('sample', Sample)]
 
 
 SAMPLES = [ctypes.POINTER(ctypes.c_uint16), ctypes.c_size_t]
 
 # What each exported function takes, and what it answers.
 EXPORTED = {
+    'ayresokum_version': ([], ctypes.c_uint32),
     'ayresokum_settle': ([Settings], Settled),
-    'ayresokum_convert': ([Settings, Frame] + SAMPLES * 3, ctypes.c_uint32),
+    'ayresokum_convert': ([Settings, Frame] + SAMPLES * 3, Converted),
     'ayresokum_check': ([Settings, Frame] + SAMPLES * 3, Checked),
 }
 
 
+class OtherVersion(Exception):
+    """The library has another interface than this file was written for."""
+
+
+def assert_version(path, calls):
+    """Libraries before version 1 have no ayresokum_version."""
+    found = f'interface {calls.ayresokum_version()}' if hasattr(calls, 'ayresokum_version') else 'no ayresokum_version'
+    if found != f'interface {VERSION}':
+        raise OtherVersion(f'{path} has {found}, and library.py was written for interface {VERSION}: build both from one commit')
+
+
 class Library:
-    def __init__(self):
-        self.calls = ctypes.CDLL(PATH)
+    def __init__(self, path=PATH):
+        self.calls = ctypes.CDLL(path)
+        assert_version(path, self.calls)
         for name, (arguments, answer) in EXPORTED.items():
             call = getattr(self.calls, name)
             call.argtypes, call.restype = arguments, answer
@@ -47,9 +74,11 @@ class Library:
         return s.refusal, [getattr(s, name) for name in WEIGHTS]
 
     def convert(self, settings, frame, source, luma, chroma):
+        """A record Converted, and both planes written where it has no refusal."""
         return self.calls.ayresokum_convert(settings, frame, source, len(source), luma, len(luma), chroma, len(chroma))
 
     def check(self, settings, frame, source, luma, chroma):
+        """A record Checked."""
         return self.calls.ayresokum_check(settings, frame, source, len(source), luma, len(luma), chroma, len(chroma))
 
 

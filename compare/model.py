@@ -1,5 +1,5 @@
-"""A model of document 01 that shares nothing with the proved code: exact fractions, 32-bit floats rounded from them to the
-nearest (ties to even), and whole numbers of any size."""
+"""A model of document 01, with request One of document 02, that shares nothing with the proved code: exact fractions, 32-bit floats
+rounded from them to the nearest (ties to even), and whole numbers of any size."""
 import struct
 from fractions import Fraction
 from functools import lru_cache
@@ -159,21 +159,23 @@ def block(s, f, row, pair):
     return [(y, x) for y in rows for x in columns]
 
 
+def too_large(s, f, source):
+    """Row, pixel and channel of each visible colour sample above m, row by row, and in a pixel red before green before blue."""
+    return ((y, x, channel) for y in range(f.height) for x in range(f.width)
+            for channel, sample in enumerate(pixel(s, f, source, y, x)) if sample > s.m())
+
+
 def frame_refusal(s, f, source, luma, chroma):
-    """7 to 10, or 0."""
+    """The numbers of a refusal, 7 to 10, or none: 10 comes with the place of the first sample above m."""
     if not (1 <= f.width <= 16384 and 1 <= f.height <= 16384):
-        return 7
+        return (7,)
     wide, high = s.chroma_size(f.width, f.height)
     strides = ((f.width * COUNT[s.channels], f.source_stride), (f.width, f.luma_stride), (wide, f.chroma_stride))
     if any(not low <= stride <= 65536 for low, stride in strides):
-        return 8
+        return (8,)
     if (len(source), len(luma), len(chroma)) != (f.height * f.source_stride, f.height * f.luma_stride, high * f.chroma_stride):
-        return 9
-    for y in range(f.height):
-        row = source[y * f.source_stride:y * f.source_stride + f.width * COUNT[s.channels]]
-        if any(max(row[place::COUNT[s.channels]]) > s.m() for place in PLACES[s.channels]):
-            return 10
-    return 0
+        return (9,)
+    return next(((10, *place) for place in too_large(s, f, source)), ())
 
 
 def mean(samples):
@@ -181,11 +183,11 @@ def mean(samples):
 
 
 def convert(s, f, source, luma, chroma):
-    """The number of the refusal or 0, and both planes after."""
+    """The numbers of the refusal, or none, and both planes after."""
     w = s.settle()
-    number = w if isinstance(w, int) else frame_refusal(s, f, source, luma, chroma)
-    if number:
-        return number, luma, chroma
+    refusal = (w,) if isinstance(w, int) else frame_refusal(s, f, source, luma, chroma)
+    if refusal:
+        return refusal, luma, chroma
     luma, chroma = list(luma), list(chroma)
     for y in range(f.height):
         for x in range(f.width):
@@ -197,7 +199,7 @@ def convert(s, f, source, luma, chroma):
             is_u = k % 2 == s.order
             average = tuple(mean([p[c] for p in pixels]) for c in range(3))
             chroma[row * f.chroma_stride + k] = s.word(code(s.precision, 2 ** (s.depth - 1), w[3:6] if is_u else w[6:9], average))
-    return 0, luma, chroma
+    return (), luma, chroma
 
 
 def formed(s, word):
@@ -233,12 +235,12 @@ def wrong(s, word, exact, pixels):
 
 
 def check(s, f, source, luma, chroma):
-    """'refused N', 'wrong PLANE ROW ELEMENT' or 'accepted'."""
+    """'refused N', 'refused 10 ROW PIXEL CHANNEL', 'wrong PLANE ROW ELEMENT' or 'accepted'."""
     w = s.settle()
-    number = w if isinstance(w, int) else 0 if isinstance(s.matrix, str) else 6
-    number = number or frame_refusal(s, f, source, luma, chroma)
-    if number:
-        return f'refused {number}'
+    refusal = (w,) if isinstance(w, int) else () if isinstance(s.matrix, str) else (6,)
+    refusal = refusal or frame_refusal(s, f, source, luma, chroma)
+    if refusal:
+        return ' '.join(['refused', *map(str, refusal)])
     for y in range(f.height):
         for x in range(f.width):
             if wrong(s, luma[y * f.luma_stride + x], exact_luma(s, pixel(s, f, source, y, x)), 1):

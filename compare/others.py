@@ -40,7 +40,7 @@ def judge(library, settings, pixel, y, u, v):
     frame = Frame(1, 1, 3, 1, 2)
     source = samples(pixel)
     luma, chroma = samples([0]), samples([0, 0])
-    assert library.convert(settings, frame, source, luma, chroma) == 0
+    assert library.convert(settings, frame, source, luma, chroma).refusal == 0
     theirs = ((0, 0, y), (1, 0, u), (1, 1, v))
     apart, wrong = [], []
     for name, (plane, element, code) in zip('YUV', theirs):
@@ -50,7 +50,7 @@ def judge(library, settings, pixel, y, u, v):
         answer = library.check(settings, frame, source, *trial)
         assert answer.refusal == 0
         if answer.wrong:
-            assert (answer.plane, answer.row, answer.element) == (plane, 0, element)
+            assert (answer.place.plane, answer.place.row, answer.place.element) == (plane, 0, element)
             wrong.append(name)
     return apart, wrong
 

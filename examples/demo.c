@@ -1,5 +1,6 @@
 /* A temper-colour ramp is converted and checked; then rows of the frame before are left in the planes, and the check finds them.
- * What is printed answers the auditor's three questions. */
+ * What is printed answers the auditor's three questions. Last, a gain change makes one sample of the source too large, and both convert
+ * and check name it. */
 #include <ayresokum.h>
 #include <stdio.h>
 #include <string.h>
@@ -42,17 +43,37 @@ static void draw(unsigned moved)
         }
 }
 
+static ayresokum_converted convert(void)
+{
+    return ayresokum_convert(SETTINGS, FRAME, source, sizeof source / sizeof *source, luma, LUMA, chroma, CHROMA);
+}
+
 static ayresokum_checked check(void)
 {
     return ayresokum_check(SETTINGS, FRAME, source, sizeof source / sizeof *source, luma, LUMA, chroma, CHROMA);
 }
 
+static const char *channel_name(uint32_t channel)
+{
+    return channel == AYRESOKUM_RED ? "red" : channel == AYRESOKUM_GREEN ? "green" : "blue";
+}
+
+/* A refusal; number 10 comes with the place of the first sample that is too large. */
+static void tell_refusal(uint32_t refusal, ayresokum_sample s)
+{
+    printf("refused, number %u", (unsigned)refusal);
+    if (refusal == AYRESOKUM_TOO_LARGE)
+        printf(": the sample at row %u, pixel %u, %s is too large", (unsigned)s.row, (unsigned)s.pixel, channel_name(s.channel));
+    printf("\n");
+}
+
 static void tell(ayresokum_checked c)
 {
     if (c.refusal)
-        printf("refused, number %u\n", (unsigned)c.refusal);
+        tell_refusal(c.refusal, c.sample);
     else if (c.wrong)
-        printf("wrong: %s, row %u, element %u\n", c.plane == AYRESOKUM_LUMA ? "luma" : "chroma", (unsigned)c.row, (unsigned)c.element);
+        printf("wrong: %s, row %u, element %u\n", c.place.plane == AYRESOKUM_LUMA ? "luma" : "chroma",
+               (unsigned)c.place.row, (unsigned)c.place.element);
     else
         printf("accepted\n");
 }
@@ -61,6 +82,11 @@ static void tell(ayresokum_checked c)
 static void copy_rows(uint16_t *plane, const uint16_t *other, unsigned first, unsigned count)
 {
     memcpy(plane + first * WIDTH, other + first * WIDTH, count * WIDTH * sizeof *plane);
+}
+
+static int are_planes_as_written(void)
+{
+    return memcmp(luma, written_luma, sizeof luma) == 0 && memcmp(chroma, written_chroma, sizeof chroma) == 0;
 }
 
 /* Each row that the check names is put right, until it accepts. */
@@ -72,10 +98,10 @@ static void name_rows(void)
     while (c.refusal == 0 && c.wrong) {
         printf("     ");
         tell(c);
-        if (c.plane == AYRESOKUM_LUMA)
-            copy_rows(luma, written_luma, c.row, 1);
+        if (c.place.plane == AYRESOKUM_LUMA)
+            copy_rows(luma, written_luma, c.place.row, 1);
         else
-            copy_rows(chroma, written_chroma, c.row, 1);
+            copy_rows(chroma, written_chroma, c.place.row, 1);
         c = check();
     }
     printf("   All others: ");
@@ -106,11 +132,26 @@ static void explain(unsigned row, unsigned column)
            exact, stored, apart(exact, stored), left, apart(exact, left));
 }
 
+/* One sample of the source gets twice its level, which is over 1023. */
+static void double_sample(unsigned row, unsigned pixel, uint32_t channel)
+{
+    uint16_t *sample = &source[(row * WIDTH + pixel) * 3 + channel];
+    ayresokum_converted c;
+    *sample = (uint16_t)(2 * *sample);
+    c = convert();
+    printf("\nA gain change: %s of pixel %u in row %u is now %u, over 1023.\n", channel_name(channel), pixel, row, (unsigned)*sample);
+    printf("Convert: ");
+    tell_refusal(c.refusal, c.sample);
+    printf("Check: ");
+    tell(check());
+    printf("Both planes are %s.\n", are_planes_as_written() ? "as they were" : "changed");
+}
+
 /* Draws and converts a frame; 0 for done. */
 static uint32_t record(unsigned moved)
 {
     draw(moved);
-    return ayresokum_convert(SETTINGS, FRAME, source, sizeof source / sizeof *source, luma, LUMA, chroma, CHROMA);
+    return convert().refusal;
 }
 
 int main(void)
@@ -133,5 +174,6 @@ int main(void)
     printf("\n");
     name_rows();
     explain(6, 0);
+    double_sample(11, 20, AYRESOKUM_GREEN);
     return 0;
 }

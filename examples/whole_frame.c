@@ -1,4 +1,4 @@
-/* Document 01's whole frame: red, blue, white at 10 bits, 4:2:0, planes filled with 7 before. */
+/* Document 01's whole frame: red, blue, white at 10 bits, 4:2:0, planes filled with 7 before; then with one sample too large. */
 #include <ayresokum.h>
 #include <stdio.h>
 
@@ -11,6 +11,16 @@ static void print(const char *name, const uint16_t *plane, size_t length)
     printf("\n");
 }
 
+/* A refusal's number, and for number 10 the place of the sample. */
+static void print_refusal(ayresokum_converted c)
+{
+    static const char *const channels[] = { "red", "green", "blue" };
+    printf("refusal %u", (unsigned)c.refusal);
+    if (c.refusal == AYRESOKUM_TOO_LARGE)
+        printf(": row %u, pixel %u, %s", (unsigned)c.sample.row, (unsigned)c.sample.pixel, channels[c.sample.channel]);
+    printf("\n");
+}
+
 int main(void)
 {
     const ayresokum_settings settings = {
@@ -18,18 +28,26 @@ int main(void)
         AYRESOKUM_UV, AYRESOKUM_LEAST_SIGNIFICANT, AYRESOKUM_LITTLE_ENDIAN, AYRESOKUM_RGB
     };
     const ayresokum_frame frame = { 3, 1, 9, 4, 6 };
-    const uint16_t source[9] = { 1023, 0, 0, 0, 0, 1023, 1023, 1023, 1023 };
+    uint16_t source[9] = { 1023, 0, 0, 0, 0, 1023, 1023, 1023, 1023 };
     uint16_t luma[4] = { 7, 7, 7, 7 };
     uint16_t chroma[6] = { 7, 7, 7, 7, 7, 7 };
+    ayresokum_converted converted;
     ayresokum_checked checked;
-    uint32_t refusal = ayresokum_convert(settings, frame, source, 9, luma, 4, chroma, 6);
-    if (refusal != AYRESOKUM_DONE) {
-        printf("refusal %u\n", (unsigned)refusal);
+    if (ayresokum_version() != AYRESOKUM_VERSION) {
+        printf("the library has interface %u, and the header %u\n", (unsigned)ayresokum_version(), (unsigned)AYRESOKUM_VERSION);
+        return 1;
+    }
+    converted = ayresokum_convert(settings, frame, source, 9, luma, 4, chroma, 6);
+    if (converted.refusal != AYRESOKUM_DONE) {
+        print_refusal(converted);
         return 1;
     }
     print("luma", luma, 4);
     print("chroma", chroma, 6);
     checked = ayresokum_check(settings, frame, source, 9, luma, 4, chroma, 6);
     printf("check: %s\n", checked.refusal == 0 && checked.wrong == 0 ? "accepted" : "not accepted");
+    source[5] = 1024;
+    printf("with blue of pixel 1 at 1024: ");
+    print_refusal(ayresokum_convert(settings, frame, source, 9, luma, 4, chroma, 6));
     return 0;
 }

@@ -26,8 +26,12 @@
  *      7  width or height is 0 or over 16384
  *      8  a stride is shorter than its visible row or over 65536
  *      9  a length is not exactly stride * rows
- *     10  a visible colour sample of the source is over m
+ *     10  a visible colour sample of the source is over m; comes with the place of the first one
  *     18  a number of the settings names no case of its enumeration; given before all others
+ *
+ *   The place of refusal 10 is the sample's row, pixel and channel. The first sample is found row by row, in a row pixel by pixel, and
+ *   in a pixel red before green before blue, whatever the order of the channels in memory; alpha and padding never count.
+ *   ayresokum_convert and ayresokum_check give the same place for the same source.
  *
  * BUFFERS
  *   All lengths and strides count uint16_t elements. source: height rows of pixels, 3 or 4 samples each. luma: height rows of
@@ -38,12 +42,20 @@
  *
  * THREADS
  *   There is no state at all: any number of calls may run at once on buffers of their own.
+ *
+ * VERSION
+ *   AYRESOKUM_VERSION is the number of this interface. It changes whenever the layout of a struct, or what a function takes or answers
+ *   with, does. The shared library's name ends in it (libayresokum.so.AYRESOKUM_VERSION), so that a program linked with one version does
+ *   not start with another. A program that loads the library by hand, or that may get header and library from different places,
+ *   compares ayresokum_version() with AYRESOKUM_VERSION before any other call. Libraries before version 1 have no ayresokum_version.
  */
 #ifndef AYRESOKUM_H
 #define AYRESOKUM_H
 
 #include <stddef.h>
 #include <stdint.h>
+
+#define AYRESOKUM_VERSION 1
 
 #ifdef __cplusplus
 extern "C" {
@@ -89,6 +101,8 @@ enum ayresokum_refusal {
 
 enum ayresokum_plane { AYRESOKUM_LUMA = 0, AYRESOKUM_CHROMA = 1 };
 
+enum ayresokum_channel { AYRESOKUM_RED = 0, AYRESOKUM_GREEN = 1, AYRESOKUM_BLUE = 2 };
+
 /* Numbers of the enumerations above; kr and kb are read for AYRESOKUM_CUSTOM alone. */
 typedef struct ayresokum_settings {
     uint32_t depth;     /* 10 to 16 */
@@ -121,24 +135,46 @@ typedef struct ayresokum_settled {
     int32_t cr_r, cr_g, cr_b;
 } ayresokum_settled;
 
-/* Refusal 0 and wrong 0: accepted. Wrong 1: the plane, row and element of the first wrong sample, where all of luma comes before chroma
- * and each plane goes row by row; rows and elements count from 0. What does not apply is 0. */
-typedef struct ayresokum_checked {
-    uint32_t refusal;
-    uint32_t wrong;
+/* Where a sample of the source stands: its row, its pixel in the row, and the enum ayresokum_channel. Rows and pixels count from 0. */
+typedef struct ayresokum_sample {
+    uint32_t row;
+    uint32_t pixel;
+    uint32_t channel;
+} ayresokum_sample;
+
+/* Where a sample of a plane stands: the enum ayresokum_plane, its row, and its element in the row. Rows and elements count from 0. */
+typedef struct ayresokum_place {
     uint32_t plane;
     uint32_t row;
     uint32_t element;
+} ayresokum_place;
+
+/* Refusal 0: both planes are written. Refusal 10: sample is where the first one over m stands. What does not apply is 0. */
+typedef struct ayresokum_converted {
+    uint32_t refusal;
+    ayresokum_sample sample;
+} ayresokum_converted;
+
+/* Refusal 0 and wrong 0: accepted. Wrong 1: place is that of the first wrong sample, where all of luma comes before chroma and each plane
+ * goes row by row. Refusal 10: sample is where the first one over m stands. What does not apply is 0. */
+typedef struct ayresokum_checked {
+    uint32_t refusal;
+    uint32_t wrong;
+    ayresokum_place place;
+    ayresokum_sample sample;
 } ayresokum_checked;
+
+/* The number of the library's interface: AYRESOKUM_VERSION of the header that belongs to it. */
+uint32_t ayresokum_version(void);
 
 /* The weights of settings, or a refusal: 1 to 5 or 18. */
 ayresokum_settled ayresokum_settle(ayresokum_settings settings);
 
-/* Converts a frame: 0 with both planes written, or a refusal (1 to 5, 7 to 10 or 18) with both as they were. */
-uint32_t ayresokum_convert(ayresokum_settings settings, ayresokum_frame frame,
-                           const uint16_t *source, size_t source_length,
-                           uint16_t *luma, size_t luma_length,
-                           uint16_t *chroma, size_t chroma_length);
+/* Converts a frame: refusal 0 with both planes written, or a refusal (1 to 5, 7 to 10 or 18) with both as they were. */
+ayresokum_converted ayresokum_convert(ayresokum_settings settings, ayresokum_frame frame,
+                                      const uint16_t *source, size_t source_length,
+                                      uint16_t *luma, size_t luma_length,
+                                      uint16_t *chroma, size_t chroma_length);
 
 /* Checks two planes, from any converter, against the source. Writes nothing. */
 ayresokum_checked ayresokum_check(ayresokum_settings settings, ayresokum_frame frame,

@@ -44,23 +44,32 @@ fn settings(depth: u32, channels: u32, subsampling: u32) -> Settings {
     }
 }
 
+/// Both sizes, without padding.
+fn sizes(settings: Settings) -> [Case; 2] {
+    SIZES.map(|(width, height)| Case {
+        settings,
+        width,
+        height,
+        padding: 0,
+    })
+}
+
 pub fn all() -> Vec<Case> {
     let mut cases = Vec::new();
     for depth in DEPTHS {
         for channels in CHANNELS {
             for subsampling in SUBSAMPLINGS {
-                for (width, height) in SIZES {
-                    cases.push(Case {
-                        settings: settings(depth, channels, subsampling),
-                        width,
-                        height,
-                        padding: 0,
-                    });
-                }
+                cases.extend(sizes(settings(depth, channels, subsampling)));
             }
         }
     }
     cases
+}
+
+/// 10 bits, 4:2:0, since no sample is too large at 16 bits, and a refused frame has no chroma to write.
+pub fn refused() -> Vec<Case> {
+    let settings = |channels| settings(DEPTHS[0], channels, SUBSAMPLINGS[0]);
+    CHANNELS.map(settings).into_iter().flat_map(sizes).collect()
 }
 
 /// 10 bits, Rgb, 4:2:0.

@@ -2,6 +2,7 @@
 mod cases;
 mod clock;
 mod machine;
+mod refused;
 mod rounds;
 mod scales;
 mod settle;
@@ -31,6 +32,7 @@ mod settings;
 fn main() {
     table::print();
     scales::print();
+    refused::print();
     settle::print_time();
     machine::print_names();
 }

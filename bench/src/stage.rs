@@ -2,6 +2,7 @@
 use crate::cases::Case;
 use crate::frame::{Frame, Planes};
 use crate::random::Random;
+use crate::raw::SampleNumbers;
 use crate::settings::Settings;
 use crate::{ours, theirs};
 use published::Loops;
@@ -16,13 +17,16 @@ pub enum Candidate {
     Crate,
     Ours,
     Check,
+    /// Ours, of the same frame with its last colour sample too large.
+    Refused,
 }
 
-pub const CANDIDATES: [Candidate; 4] = [
+pub const CANDIDATES: [Candidate; 5] = [
     Candidate::Copy,
     Candidate::Crate,
     Candidate::Ours,
     Candidate::Check,
+    Candidate::Refused,
 ];
 
 pub struct Stage {
@@ -87,6 +91,7 @@ impl Stage {
             Candidate::Crate => self.convert_by_crate(),
             Candidate::Ours => self.convert_by_ours(),
             Candidate::Check => self.check(),
+            Candidate::Refused => self.refuse(),
         }
     }
 
@@ -105,8 +110,12 @@ impl Stage {
     }
 
     fn convert_by_ours(&mut self) {
-        let refusal = ours::convert(&self.settings, &self.frame, &self.source, &mut self.planes);
-        assert_eq!(refusal, 0, "{} {}: refused", self.settings, self.frame);
+        let answer = ours::convert(&self.settings, &self.frame, &self.source, &mut self.planes);
+        assert_eq!(
+            answer.refusal, 0,
+            "{} {}: refused",
+            self.settings, self.frame
+        );
     }
 
     fn check(&mut self) {
@@ -115,6 +124,28 @@ impl Stage {
             (answer.refusal, answer.wrong),
             (0, 0),
             "{} {}: not accepted",
+            self.settings,
+            self.frame
+        );
+    }
+
+    /// The sample is put back, so that the other candidates find the frame as it was.
+    fn refuse(&mut self) {
+        let Frame { width, height, .. } = self.frame;
+        let (row, pixel) = (height - 1, width - 1);
+        let blue = row * self.frame.source_stride + pixel * self.settings.channel_count() + 2;
+        let sample = std::mem::replace(&mut self.source[blue], u16::MAX);
+        let answer = ours::convert(&self.settings, &self.frame, &self.source, &mut self.planes);
+        self.source[blue] = sample;
+        let expected = SampleNumbers {
+            row: row as u32,
+            pixel: pixel as u32,
+            channel: 2,
+        };
+        assert_eq!(
+            (answer.refusal, answer.sample),
+            (ours::TOO_LARGE, expected),
+            "{} {}: not refused by its last sample",
             self.settings,
             self.frame
         );

@@ -2,7 +2,14 @@
 use crate::cases::{self, Case};
 use crate::rounds::{self, Times, LEAST_ROUNDS, PASSES};
 use crate::settings::{CHANNELS, SUBSAMPLINGS};
-use crate::stage::{Candidate, CANDIDATES};
+use crate::stage::Candidate;
+
+const TIMED: [Candidate; 4] = [
+    Candidate::Copy,
+    Candidate::Crate,
+    Candidate::Ours,
+    Candidate::Check,
+];
 
 const HEAD: &str = "\
 | depth | channels | subsampling | size | crate, ms | ours, ms | ours/crate | check, ms | check/crate | check/ours | memcpy, ms |
@@ -46,7 +53,7 @@ padding, buffers touched before. Before the rounds both converters wrote the sam
 
 pub fn print() {
     let cases = cases::all();
-    let best = rounds::best_times(&cases, &CANDIDATES);
+    let best = rounds::best_times(&cases, &TIMED);
     println!("{HEAD}");
     for (case, times) in cases.iter().zip(&best) {
         print_row(case, times);

@@ -1,5 +1,6 @@
 //! The third service: a recorded frame checked.
-use crate::{raw, Frame, Refusal, Settings};
+use crate::raw::{self, PlaceNumbers};
+use crate::{Frame, Refusal, Settings};
 
 /// What a check says of a recorded frame.
 #[derive(Debug, Clone, Copy, PartialEq, Eq, Hash)]
@@ -10,7 +11,7 @@ pub enum Checked {
     Wrong(Place),
 }
 
-/// Where a sample stands. Rows and elements count from 0.
+/// Where a sample of the planes stands. Rows and elements count from 0.
 #[derive(Debug, Clone, Copy, PartialEq, Eq, Hash)]
 pub struct Place {
     /// Its plane.
@@ -19,6 +20,16 @@ pub struct Place {
     pub row: usize,
     /// Its element in the row.
     pub element: usize,
+}
+
+impl Place {
+    fn of(place: PlaceNumbers) -> Place {
+        Place {
+            plane: Plane::of(place.plane),
+            row: place.row as usize,
+            element: place.element as usize,
+        }
+    }
 }
 
 /// One of the two planes.
@@ -54,13 +65,9 @@ pub fn check(
     chroma: &[u16],
 ) -> Result<Checked, Refusal> {
     let checked = raw::check(settings.into(), *frame, source, luma, chroma);
-    Refusal::answered(checked.refusal)?;
+    Refusal::answered_with(checked.refusal, checked.sample)?;
     Ok(match checked.wrong {
         0 => Checked::Accepted,
-        _ => Checked::Wrong(Place {
-            plane: Plane::of(checked.plane),
-            row: checked.row as usize,
-            element: checked.element as usize,
-        }),
+        _ => Checked::Wrong(Place::of(checked.place)),
     })
 }

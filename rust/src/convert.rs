@@ -32,6 +32,6 @@ pub fn convert(
     luma: &mut [u16],
     chroma: &mut [u16],
 ) -> Result<(), Refusal> {
-    let number = raw::convert(settings.into(), *frame, source, luma, chroma);
-    Refusal::answered(number)
+    let converted = raw::convert(settings.into(), *frame, source, luma, chroma);
+    Refusal::answered_with(converted.refusal, converted.sample)
 }

@@ -86,6 +86,39 @@
 //! assert_eq!(refusal.to_string(), "refusal 7: width or height is 0 or over 16,384");
 //! ```
 //!
+//! A sample above m is refused with its place, so that nobody has to search the frame after a gain change. The first one counts,
+//! row by row, and in a pixel red before green before blue. [`convert`](convert()) and [`check`](check()) name the same one.
+//!
+//! ```
+//! use ayresokum::{
+//!     check, convert, Channel, Frame, Refusal, Settings, SourcePlace, YuvChromaSubsampling, YuvRange, YuvSourceChannels,
+//!     YuvStandardMatrix,
+//! };
+//!
+//! let settings = Settings::new(
+//!     10,
+//!     YuvStandardMatrix::Bt709,
+//!     YuvRange::Limited,
+//!     YuvChromaSubsampling::Yuv420,
+//!     YuvSourceChannels::Bgra,
+//! );
+//! let frame = Frame::unpadded(&settings, 20, 4);
+//! let lengths = frame.lengths(&settings);
+//! let mut source = vec![700; lengths.source];
+//! let (mut luma, mut chroma) = (vec![0; lengths.luma], vec![0; lengths.chroma]);
+//!
+//! // Green stands second in a pixel of four.
+//! source[3 * frame.source_stride + 17 * 4 + 1] = 1400;
+//! let refusal = convert(&settings, &frame, &source, &mut luma, &mut chroma).unwrap_err();
+//! let place = SourcePlace { row: 3, pixel: 17, channel: Channel::Green };
+//! assert_eq!(refusal, Refusal::TooLarge(place));
+//! assert_eq!(
+//!     refusal.to_string(),
+//!     "refusal 10: a visible colour sample of the source exceeds m: row 3, pixel 17, green"
+//! );
+//! assert_eq!(check(&settings, &frame, &source, &luma, &chroma), Err(refusal));
+//! ```
+//!
 //! # Moving from yuvutils-rs
 //!
 //! The types have its names, and its sixteen functions are in [`names`] and at the root, so that `use yuvutils_rs::{..}`
@@ -114,11 +147,14 @@
 //! `rt staticlib ayresokum` writes the proved library to the repository's target/staticlib, where the build looks for it. The
 //! variable `AYRESOKUM_LIB` names another folder, from the root or from this crate's folder.
 //!
+//! The library's interface has a number. With a library of another number than this crate was written for every call panics and
+//! names both; a library from before there were numbers cannot be linked, since it has no `ayresokum_version`.
+//!
 //! # What is proved
 //!
 //! - For every input, each of the three functions gives the answer that the rules say, and no other: the refusals in their
-//!   order, the weights, every element of both planes, the first wrong sample. The rules stand as definitions in the
-//!   repository's crates/rules/specs.
+//!   order, the weights, every element of both planes, the first wrong sample, the first sample that is too large. The rules
+//!   stand as definitions in the repository's crates/rules/specs.
 //! - Refusal 4 is never given.
 //! - Whatever `convert` writes with a named matrix, `check` accepts.
 //!
@@ -126,7 +162,7 @@
 //!
 //! - The back end of the compiler that turns the proved code into machine code.
 //! - This crate: the numbers in place of enumerations, pointers and lengths in place of slices, answers turned into
-//!   [`Result`]. It is tested against the rules written afresh, by some three hundred thousand random calls.
+//!   [`Result`]. It is tested against the rules written afresh, by more than three hundred thousand random calls.
 //! - That the recorded source is the one the camera saw.
 #![deny(missing_docs)]
 #![deny(unsafe_code)]
@@ -143,6 +179,7 @@ mod raw;
 mod refusal;
 mod settings;
 mod settle;
+mod source_place;
 mod weights;
 
 pub use check::{check, Checked, Place, Plane};
@@ -157,4 +194,5 @@ pub use settings::{
     YuvSourceChannels, YuvStandardMatrix,
 };
 pub use settle::settle;
+pub use source_place::{Channel, SourcePlace};
 pub use weights::Weights;

@@ -9,7 +9,7 @@
 //! - `Smpte240` has the numbers of Rec. ITU-T H.273. At 16 bits in full range it gets refusal 5.
 //! - Refused, where yuvutils-rs goes on: a custom pair that is not positive, a code or a sample out of range, a buffer that is
 //!   longer than stride × rows or lacks the padding of its last row.
-//! - The error is a [`Refusal`], and the planes of a refused call are untouched.
+//! - The error is a [`Refusal`], which names the first sample out of range, and the planes of a refused call are untouched.
 use crate::{
     convert, Frame, Refusal, Settings, YuvBiPlanarImageMut, YuvChromaSubsampling, YuvRange,
     YuvSourceChannels, YuvStandardMatrix,

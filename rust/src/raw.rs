@@ -3,6 +3,9 @@
 //! This file uses nothing of the crate: the tests, bench and compare/beside include it too, so that Rust has every record
 //! and function of the interface written once. docs/BOUNDARY.md lists where else they stand.
 
+/// The interface that this file declares: the header's AYRESOKUM_VERSION.
+pub const VERSION: u32 = 1;
+
 /// Settings with numbers in place of the enumerations.
 #[repr(C)]
 #[derive(Debug, Clone, Copy)]
@@ -46,18 +49,46 @@ pub struct SettledNumbers {
     pub weights: [i32; 9],
 }
 
-/// The refusal's number, or 0; 1 where a sample is wrong; and the place of the first wrong one. What does not apply is 0.
+/// Where a sample of the source stands: its row, its pixel in the row, and its channel, 0 red, 1 green or 2 blue.
 #[repr(C)]
-#[derive(Debug, Clone, Copy)]
-pub struct CheckedNumbers {
-    pub refusal: u32,
-    pub wrong: u32,
+#[derive(Debug, Clone, Copy, PartialEq, Eq)]
+pub struct SampleNumbers {
+    pub row: u32,
+    pub pixel: u32,
+    pub channel: u32,
+}
+
+/// Where a sample of a plane stands: the plane, 0 luma or 1 chroma, its row, and its element in the row.
+#[repr(C)]
+#[derive(Debug, Clone, Copy, PartialEq, Eq)]
+pub struct PlaceNumbers {
     pub plane: u32,
     pub row: u32,
     pub element: u32,
 }
 
+/// The refusal's number, or 0; and with refusal 10 the first sample that is too large. What does not apply is 0.
+#[repr(C)]
+#[derive(Debug, Clone, Copy)]
+pub struct ConvertedNumbers {
+    pub refusal: u32,
+    pub sample: SampleNumbers,
+}
+
+/// The refusal's number, or 0; 1 where a sample is wrong, and the place of the first wrong one; and with refusal 10 the first
+/// sample that is too large. What does not apply is 0.
+#[repr(C)]
+#[derive(Debug, Clone, Copy)]
+pub struct CheckedNumbers {
+    pub refusal: u32,
+    pub wrong: u32,
+    pub place: PlaceNumbers,
+    pub sample: SampleNumbers,
+}
+
 extern "C" {
+    fn ayresokum_version() -> u32;
+
     fn ayresokum_settle(settings: SettingsNumbers) -> SettledNumbers;
 
     fn ayresokum_convert(
@@ -69,7 +100,7 @@ extern "C" {
         luma_length: usize,
         chroma: *mut u16,
         chroma_length: usize,
-    ) -> u32;
+    ) -> ConvertedNumbers;
 
     fn ayresokum_check(
         settings: SettingsNumbers,
@@ -83,19 +114,33 @@ extern "C" {
     ) -> CheckedNumbers;
 }
 
+fn assert_version(linked: u32) {
+    assert!(
+        linked == VERSION,
+        "libayresokum has interface {linked}, and this crate was written for {VERSION}: build both from one commit"
+    );
+}
+
+/// Panics where the linked library has another interface, whose records could not be read.
+fn assert_linked_version() {
+    // SAFETY: every library that has this function takes nothing and answers with a u32.
+    assert_version(unsafe { ayresokum_version() });
+}
+
 pub fn settle(settings: SettingsNumbers) -> SettledNumbers {
+    assert_linked_version();
     // SAFETY: everything is passed by value, in the library's layout.
     unsafe { ayresokum_settle(settings) }
 }
 
-/// The refusal's number, or 0.
 pub fn convert(
     settings: SettingsNumbers,
     frame: Frame,
     source: &[u16],
     luma: &mut [u16],
     chroma: &mut [u16],
-) -> u32 {
+) -> ConvertedNumbers {
+    assert_linked_version();
     // SAFETY: each pointer comes from a slice, with the length of that slice, and the slices do not overlap, since two
     // of them are lent mutably. The library keeps no pointer.
     unsafe {
@@ -119,6 +164,7 @@ pub fn check(
     luma: &[u16],
     chroma: &[u16],
 ) -> CheckedNumbers {
+    assert_linked_version();
     // SAFETY: each pointer comes from a slice, with the length of that slice. The library writes to none and keeps none.
     unsafe {
         ayresokum_check(
@@ -131,5 +177,24 @@ pub fn check(
             chroma.as_ptr(),
             chroma.len(),
         )
+    }
+}
+
+#[cfg(test)]
+mod tests {
+    use super::*;
+
+    #[test]
+    fn same_version() {
+        assert_version(VERSION);
+        assert_linked_version();
+    }
+
+    #[test]
+    #[should_panic(
+        expected = "libayresokum has interface 0, and this crate was written for 1: build both from one commit"
+    )]
+    fn another_version() {
+        assert_version(0);
     }
 }

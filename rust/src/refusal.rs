@@ -1,4 +1,6 @@
 //! Why a call was refused.
+use crate::raw::SampleNumbers;
+use crate::SourcePlace;
 use std::error::Error;
 use std::fmt;
 
@@ -8,32 +10,33 @@ use std::fmt;
 #[derive(Debug, Clone, Copy, PartialEq, Eq, Hash)]
 pub enum Refusal {
     /// The depth is not 10 to 16.
-    Depth = 1,
+    Depth,
     /// The precision is not 1 to 13.
-    Precision = 2,
+    Precision,
     /// One of a custom pair's kr, kb and kg = 1 − kr − kb is not above 0.
-    CustomPair = 3,
+    CustomPair,
     /// A weight lies far from its exact fraction. Proved never to be given.
-    WeightOff = 4,
+    WeightOff,
     /// The code of white or of a full colour would lie outside 0 to m.
-    CodeOutside = 5,
+    CodeOutside,
     /// A check with a custom matrix.
-    CustomUnchecked = 6,
+    CustomUnchecked,
     /// The width or height is 0 or over 16,384.
-    Size = 7,
+    Size,
     /// A stride is too short or over 65,536.
-    Stride = 8,
+    Stride,
     /// A buffer has not the exact length.
-    Length = 9,
-    /// A sample of the source is above m.
-    TooLarge = 10,
+    Length,
+    /// A visible colour sample of the source is above m. This is where the first one stands: row by row, in a row pixel by
+    /// pixel, in a pixel red before green before blue, whatever the channel layout.
+    TooLarge(SourcePlace),
     /// A number names no case of its enumeration. The types of this crate rule it out.
-    Unnamed = 18,
+    Unnamed,
 }
 
 impl Refusal {
-    /// All refusals, in the order of their numbers.
-    pub const ALL: [Refusal; 11] = [
+    /// The refusals that carry nothing.
+    const PLAIN: [Refusal; 10] = [
         Refusal::Depth,
         Refusal::Precision,
         Refusal::CustomPair,
@@ -43,26 +46,45 @@ impl Refusal {
         Refusal::Size,
         Refusal::Stride,
         Refusal::Length,
-        Refusal::TooLarge,
         Refusal::Unnamed,
     ];
 
     /// The number of the refusal.
     pub const fn number(self) -> u32 {
-        self as u32
-    }
-
-    /// What the library's answer means: 0 is no refusal.
-    pub(crate) fn answered(number: u32) -> Result<(), Refusal> {
-        match number {
-            0 => Ok(()),
-            _ => Err(Refusal::of(number)),
+        match self {
+            Refusal::Depth => 1,
+            Refusal::Precision => 2,
+            Refusal::CustomPair => 3,
+            Refusal::WeightOff => 4,
+            Refusal::CodeOutside => 5,
+            Refusal::CustomUnchecked => 6,
+            Refusal::Size => 7,
+            Refusal::Stride => 8,
+            Refusal::Length => 9,
+            Refusal::TooLarge(_) => 10,
+            Refusal::Unnamed => 18,
         }
     }
 
-    // Only a library of another version can give a number that is not here.
-    fn of(number: u32) -> Refusal {
-        let named = Refusal::ALL.into_iter().find(|r| r.number() == number);
+    /// What the number in settle's answer means: 0 is no refusal.
+    pub(crate) fn answered(number: u32) -> Result<(), Refusal> {
+        match number {
+            0 => Ok(()),
+            _ => Err(Refusal::plain(number)),
+        }
+    }
+
+    /// The same of convert's and check's answers, in which refusal 10 comes with a sample.
+    pub(crate) fn answered_with(number: u32, sample: SampleNumbers) -> Result<(), Refusal> {
+        match number {
+            10 => Err(Refusal::TooLarge(SourcePlace::of(sample))),
+            _ => Refusal::answered(number),
+        }
+    }
+
+    // A library of this version gives no other number, and 10 with a sample alone; one of another version is not called.
+    fn plain(number: u32) -> Refusal {
+        let named = Refusal::PLAIN.into_iter().find(|r| r.number() == number);
         named.unwrap_or_else(|| panic!("the linked library has a refusal {number}, unknown here"))
     }
 
@@ -83,16 +105,21 @@ impl Refusal {
             Refusal::Size => "width or height is 0 or over 16,384",
             Refusal::Stride => "a stride is shorter than its visible row or over 65,536",
             Refusal::Length => "a buffer's length is not exactly stride × rows",
-            Refusal::TooLarge => "a visible colour sample of the source exceeds m",
+            Refusal::TooLarge(_) => "a visible colour sample of the source exceeds m",
             Refusal::Unnamed => "a number names no case of its enumeration",
         }
     }
 }
 
-/// `refusal 7: width or height is 0 or over 16,384`, and so on.
+/// `refusal 7: width or height is 0 or over 16,384`, and so on; refusal 10 with its place, as
+/// `refusal 10: a visible colour sample of the source exceeds m: row 3, pixel 17, green`.
 impl fmt::Display for Refusal {
     fn fmt(&self, f: &mut fmt::Formatter<'_>) -> fmt::Result {
-        write!(f, "refusal {}: {}", self.number(), self.sentence())
+        write!(f, "refusal {}: {}", self.number(), self.sentence())?;
+        match self {
+            Refusal::TooLarge(place) => write!(f, ": {place}"),
+            _ => Ok(()),
+        }
     }
 }
 

@@ -1,7 +1,7 @@
 //! Document 01's examples and both sides of its limits, by the crate's functions.
 use ayresokum::{
-    check, convert, settle, Checked, Frame, Place, Plane, Refusal, Settings, YuvBytesPacking,
-    YuvChromaSubsampling, YuvRange, YuvSourceChannels, YuvStandardMatrix,
+    check, convert, settle, Channel, Checked, Frame, Place, Plane, Refusal, Settings, SourcePlace,
+    YuvBytesPacking, YuvChromaSubsampling, YuvRange, YuvSourceChannels, YuvStandardMatrix,
 };
 
 /// "J" as 4:2:0, RGB, UV, least significant, little endian.
@@ -213,15 +213,19 @@ fn lengths() {
 #[test]
 fn samples() {
     let frame = Frame::unpadded(&J, 3, 1);
-    for place in 0..9 {
+    for at in 0..9 {
         let mut source = [0; 9];
-        source[place] = 1023;
+        source[at] = 1023;
         assert!(converted(&J, &frame, &source).is_ok());
-        source[place] = 1024;
-        assert_eq!(
-            converted(&J, &frame, &source).err(),
-            Some(Refusal::TooLarge)
-        );
+        source[at] = 1024;
+        let place = SourcePlace {
+            row: 0,
+            pixel: at / 3,
+            channel: [Channel::Red, Channel::Green, Channel::Blue][at % 3],
+        };
+        let refusal = Some(Refusal::TooLarge(place));
+        assert_eq!(converted(&J, &frame, &source).err(), refusal);
+        assert_eq!(check(&J, &frame, &source, &[7; 3], &[7; 4]).err(), refusal);
     }
     let rgba = Settings {
         channels: YuvSourceChannels::Rgba,

@@ -2,9 +2,9 @@
 use ayresokum::{
     convert, rgb10_to_p010, rgb10_to_p210, rgb10_to_p410, rgb12_to_p012, rgb12_to_p212,
     rgb12_to_p412, rgb16_to_p016, rgb16_to_p216, rgba10_to_p010, rgba10_to_p210, rgba10_to_p410,
-    rgba12_to_p012, rgba12_to_p212, rgba12_to_p412, rgba16_to_p016, rgba16_to_p216, Frame, Refusal,
-    Settings, YuvBiPlanarImageMut, YuvBytesPacking, YuvChromaSubsampling, YuvEndianness,
-    YuvNVOrder, YuvRange, YuvSourceChannels, YuvStandardMatrix,
+    rgba12_to_p012, rgba12_to_p212, rgba12_to_p412, rgba16_to_p016, rgba16_to_p216, Channel, Frame,
+    Refusal, Settings, SourcePlace, YuvBiPlanarImageMut, YuvBytesPacking, YuvChromaSubsampling,
+    YuvEndianness, YuvNVOrder, YuvRange, YuvSourceChannels, YuvStandardMatrix,
 };
 use YuvChromaSubsampling::{Yuv420, Yuv422, Yuv444};
 use YuvSourceChannels::{Rgb, Rgba};
@@ -156,9 +156,16 @@ fn refusals() {
             Err(Refusal::Length)
         );
         let mut bright = source;
-        bright[0] = u16::MAX;
-        let answer = compare(name, settings, &frame, &bright);
-        assert_eq!(answer.is_err(), settings.depth < 16);
-        assert!(answer.is_ok() || answer == Err(Refusal::TooLarge));
+        bright[frame.source_stride + settings.channels.get_channels_count() + 2] = u16::MAX;
+        let blue = SourcePlace {
+            row: 1,
+            pixel: 1,
+            channel: Channel::Blue,
+        };
+        let expected = match settings.depth {
+            16 => Ok(()),
+            _ => Err(Refusal::TooLarge(blue)),
+        };
+        assert_eq!(compare(name, settings, &frame, &bright), expected);
     });
 }

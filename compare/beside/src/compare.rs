@@ -112,7 +112,7 @@ impl Comparison {
             before,
         } = input;
         let mut ours = before.clone();
-        let refusal = ours::convert(settings, frame, source, &mut ours);
+        let refusal = ours::convert(settings, frame, source, &mut ours).refusal;
         if refusal != 0 {
             self.tally.refuse(refusal);
             self.expect("ours refused, planes", input, before, ours);

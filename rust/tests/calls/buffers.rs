@@ -87,17 +87,6 @@ pub fn source(random: &mut Random, settings: &Settings, frame: &Frame, length: u
     source
 }
 
-/// Puts one visible sample above m; at 16 bits no word is.
-pub fn spoil_sample(random: &mut Random, settings: &Settings, frame: &Frame, source: &mut [u16]) {
-    let places = colour_places(settings, frame, source.len());
-    let most = most(settings);
-    if places.is_empty() || most == u16::MAX {
-        return;
-    }
-    let place = places[random.place(places.len())];
-    source[place] = random.pick(&[most + 1, most + 1, u16::MAX]);
-}
-
 pub fn plane(random: &mut Random, length: usize) -> Vec<u16> {
     match random.below(2) {
         0 => vec![7; length],

@@ -1,7 +1,7 @@
 //! A call: settings, a frame and its buffers, drawn at random.
 use super::random::Random;
-use super::{buffers, frames, settings};
-use crate::reference::{self, Frame, Settings};
+use super::{buffers, excess, frames, settings};
+use crate::reference::{self, Frame, Refusal, Settings};
 
 #[derive(Clone)]
 pub struct Call {
@@ -55,7 +55,8 @@ impl Call {
         }
         let mut source = buffers::source(random, &settings, &frame, lengths[0]);
         if has(Damage::Sample) {
-            buffers::spoil_sample(random, &settings, &frame, &mut source);
+            let excess = random.pick(&excess::ALL);
+            excess.make(random, &settings, &frame, &mut source);
         }
         let luma = buffers::plane(random, lengths[1]);
         let chroma = buffers::plane(random, lengths[2]);
@@ -69,7 +70,7 @@ impl Call {
     }
 
     /// Converts by document 01.
-    pub fn convert(&mut self) -> Result<(), u32> {
+    pub fn convert(&mut self) -> Result<(), Refusal> {
         reference::convert(
             &self.settings,
             &self.frame,
@@ -80,7 +81,7 @@ impl Call {
     }
 
     /// Checks by document 01.
-    pub fn check(&self) -> Result<Option<reference::Sample>, u32> {
+    pub fn check(&self) -> Result<Option<reference::Sample>, Refusal> {
         reference::check(
             &self.settings,
             &self.frame,

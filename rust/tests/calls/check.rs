@@ -4,9 +4,29 @@ use super::change::{Change, ALL};
 use super::counts::{refused, Counts};
 use super::library::{check, By};
 use super::random::Random;
-use crate::reference::{Frame, Sample, Settings};
+use crate::reference::{Frame, Refusal, Sample, Settings};
 
 const CALLS: usize = 60_000;
+
+/// The answer held against the reference; no element changes.
+pub fn check_as_expected(
+    by: By,
+    call: &Call,
+    changes: &[Change],
+) -> Result<Option<Sample>, Refusal> {
+    let before = call.clone();
+    let expected = call.check();
+    assert_eq!(
+        check(by, call),
+        expected,
+        "{by:?} {changes:?} {}",
+        call.told()
+    );
+    assert!(
+        call.source == before.source && call.luma == before.luma && call.chroma == before.chroma
+    );
+    expected
+}
 
 /// Makes one change mostly, so that its own answer shows, or several, so that the first wrong sample is one of many. Gives the
 /// changes that were made.
@@ -21,12 +41,12 @@ fn change(random: &mut Random, call: &mut Call) -> Vec<Change> {
     changes
 }
 
-fn told(answer: Result<Option<Sample>, u32>) -> String {
+fn told(answer: Result<Option<Sample>, Refusal>) -> String {
     match answer {
         Ok(None) => "accepted".to_string(),
         Ok(Some(Sample { plane: 0, .. })) => "wrong luma".to_string(),
         Ok(Some(_)) => "wrong chroma".to_string(),
-        Err(number) => refused(number),
+        Err(refusal) => refused(refusal.number),
     }
 }
 
@@ -36,22 +56,12 @@ fn compare(random: &mut Random, mut call: Call, counts: &mut Counts) {
         _ => Vec::new(),
     };
     let by = By::draw(random, &call.settings);
-    let before = call.clone();
-    let expected = call.check();
-    assert_eq!(
-        check(by, &call),
-        expected,
-        "{by:?} {changes:?} {}",
-        call.told()
-    );
-    assert!(
-        call.source == before.source && call.luma == before.luma && call.chroma == before.chroma
-    );
-    counts.add(told(expected));
+    let answer = check_as_expected(by, &call, &changes);
+    counts.add(told(answer));
     counts.add(format!("by {by:?}"));
     counts.add_many("elements judged", call.elements());
-    if let ([change], Ok(_)) = (&changes[..], expected) {
-        counts.add(format!("{change:?}, {}", told(expected)));
+    if let ([change], Ok(_)) = (&changes[..], answer) {
+        counts.add(format!("{change:?}, {}", told(answer)));
     }
 }
 

@@ -3,11 +3,12 @@ use super::call::Call;
 use super::counts::{refused, Counts};
 use super::library::{check, convert, By};
 use super::random::Random;
+use crate::reference::Refusal;
 
 const CALLS: usize = 40_000;
 
-fn compare(random: &mut Random, call: Call, counts: &mut Counts) {
-    let by = By::draw(random, &call.settings);
+/// The answer and every element held against the reference. Gives the answer, and the buffers after the call.
+pub fn convert_as_expected(by: By, call: &Call) -> (Result<(), Refusal>, Call) {
     let mut expected = call.clone();
     let mut got = call.clone();
     let answer = expected.convert();
@@ -23,10 +24,16 @@ fn compare(random: &mut Random, call: Call, counts: &mut Counts) {
         "chroma: {by:?} {}",
         call.told()
     );
+    (answer, got)
+}
+
+fn compare(random: &mut Random, call: Call, counts: &mut Counts) {
+    let by = By::draw(random, &call.settings);
+    let (answer, got) = convert_as_expected(by, &call);
     counts.add(format!("by {by:?}"));
     counts.add_many("elements compared", call.elements());
     match answer {
-        Err(number) => counts.add(refused(number)),
+        Err(refusal) => counts.add(refused(refusal.number)),
         Ok(()) if call.settings.is_custom() => counts.add("done, custom pair"),
         Ok(()) => {
             counts.add("done, named matrix");

@@ -17,10 +17,15 @@ impl Counts {
         self.0.get(what).copied().unwrap_or(0)
     }
 
-    pub fn assert_reached(&self, all: &[&str]) {
+    pub fn assert_at_least(&self, least: u64, all: &[impl AsRef<str>]) {
         for what in all {
-            assert!(self.of(what) > 0, "never reached: {what}");
+            let (what, count) = (what.as_ref(), self.of(what.as_ref()));
+            assert!(count >= least, "{what}: {count}, fewer than {least}");
         }
+    }
+
+    pub fn assert_reached(&self, all: &[&str]) {
+        self.assert_at_least(1, all);
     }
 
     pub fn assert_refusals(&self, given: &[u32]) {

@@ -1,10 +1,10 @@
 //! Calls of the library, by the crate's functions or by the raw ones, with the answers in the form that the reference gives them.
 use super::call::Call;
 use super::random::Random;
-use crate::raw;
-use crate::reference::{Frame, Sample, Settings};
+use crate::raw::{self, PlaceNumbers, SampleNumbers};
+use crate::reference::{Frame, Refusal, Sample, Settings, SourcePlace};
 use ayresokum::{
-    Checked, Plane, Refusal, Weights, YuvBytesPacking, YuvChromaSubsampling, YuvEndianness,
+    Channel, Checked, Plane, Weights, YuvBytesPacking, YuvChromaSubsampling, YuvEndianness,
     YuvNVOrder, YuvRange, YuvSourceChannels, YuvStandardMatrix,
 };
 
@@ -56,10 +56,49 @@ fn meant_frame(frame: &Frame) -> ayresokum::Frame {
     }
 }
 
-fn answer<T>(refusal: u32, value: T) -> Result<T, u32> {
-    match refusal {
-        0 => Ok(value),
-        number => Err(number),
+fn source_place(place: ayresokum::SourcePlace) -> SourcePlace {
+    let channel = match place.channel {
+        Channel::Red => 0,
+        Channel::Green => 1,
+        Channel::Blue => 2,
+    };
+    SourcePlace {
+        row: place.row,
+        pixel: place.pixel,
+        channel,
+    }
+}
+
+fn refusal(refusal: ayresokum::Refusal) -> Refusal {
+    let place = match refusal {
+        ayresokum::Refusal::TooLarge(place) => Some(source_place(place)),
+        _ => None,
+    };
+    Refusal {
+        number: refusal.number(),
+        place,
+    }
+}
+
+/// The sample that a refusal carries; but for refusal 10 all of its numbers are 0.
+fn raw_place(number: u32, sample: SampleNumbers) -> Option<SourcePlace> {
+    let [row, pixel, channel] = [sample.row, sample.pixel, sample.channel].map(|n| n as usize);
+    if number == 10 {
+        return Some(SourcePlace {
+            row,
+            pixel,
+            channel,
+        });
+    }
+    assert_eq!([row, pixel, channel], [0; 3], "a sample with {number}");
+    None
+}
+
+fn raw_answer(number: u32, sample: SampleNumbers) -> Result<(), Refusal> {
+    let place = raw_place(number, sample);
+    match number {
+        0 => Ok(()),
+        _ => Err(Refusal { number, place }),
     }
 }
 
@@ -77,7 +116,7 @@ pub fn settle(by: By, settings: &Settings) -> Result<[[i128; 3]; 3], u32> {
     match by {
         By::Crate => {
             let settled = ayresokum::settle(&meant(settings));
-            settled.map(|w| rows(nine(w))).map_err(Refusal::number)
+            settled.map(|w| rows(nine(w))).map_err(|r| r.number())
         }
         By::Raw => {
             let settled = raw::settle(*settings);
@@ -85,21 +124,27 @@ pub fn settle(by: By, settings: &Settings) -> Result<[[i128; 3]; 3], u32> {
                 settled.refusal == 0 || settled.weights == [0; 9],
                 "weights with a refusal: {settings:?}"
             );
-            answer(settled.refusal, rows(settled.weights))
+            match settled.refusal {
+                0 => Ok(rows(settled.weights)),
+                number => Err(number),
+            }
         }
     }
 }
 
-pub fn convert(by: By, call: &mut Call) -> Result<(), u32> {
+pub fn convert(by: By, call: &mut Call) -> Result<(), Refusal> {
     let (settings, frame) = (call.settings, call.frame);
     let (source, luma, chroma) = (&call.source, &mut call.luma, &mut call.chroma);
     match by {
         By::Crate => {
             let (settings, frame) = (meant(&settings), meant_frame(&frame));
             let converted = ayresokum::convert(&settings, &frame, source, luma, chroma);
-            converted.map_err(Refusal::number)
+            converted.map_err(refusal)
         }
-        By::Raw => answer(raw::convert(settings, frame, source, luma, chroma), ()),
+        By::Raw => {
+            let converted = raw::convert(settings, frame, source, luma, chroma);
+            raw_answer(converted.refusal, converted.sample)
+        }
     }
 }
 
@@ -115,27 +160,22 @@ fn sample(place: ayresokum::Place) -> Sample {
     }
 }
 
-fn raw_sample(checked: raw::CheckedNumbers) -> Option<Sample> {
-    let [wrong, plane, row, element] =
-        [checked.wrong, checked.plane, checked.row, checked.element].map(|n| n as usize);
-    match wrong {
-        1 => Some(Sample {
+/// The place of a wrong sample; where none is wrong all of its numbers are 0.
+fn raw_sample(wrong: u32, place: PlaceNumbers) -> Option<Sample> {
+    let [plane, row, element] = [place.plane, place.row, place.element].map(|n| n as usize);
+    if wrong == 1 {
+        return Some(Sample {
             plane,
             row,
             element,
-        }),
-        _ => {
-            assert_eq!(
-                [wrong, plane, row, element],
-                [0; 4],
-                "a place with no wrong sample"
-            );
-            None
-        }
+        });
     }
+    assert_eq!(wrong, 0, "neither wrong nor right");
+    assert_eq!([plane, row, element], [0; 3], "a place of no wrong sample");
+    None
 }
 
-pub fn check(by: By, call: &Call) -> Result<Option<Sample>, u32> {
+pub fn check(by: By, call: &Call) -> Result<Option<Sample>, Refusal> {
     let (settings, frame) = (call.settings, call.frame);
     let (source, luma, chroma) = (&call.source, &call.luma, &call.chroma);
     match by {
@@ -146,7 +186,7 @@ pub fn check(by: By, call: &Call) -> Result<Option<Sample>, u32> {
                 Checked::Accepted => None,
                 Checked::Wrong(place) => Some(sample(place)),
             });
-            named.map_err(Refusal::number)
+            named.map_err(refusal)
         }
         By::Raw => {
             let checked = raw::check(settings, frame, source, luma, chroma);
@@ -155,7 +195,8 @@ pub fn check(by: By, call: &Call) -> Result<Option<Sample>, u32> {
                 "wrong and refused: {}",
                 call.told()
             );
-            answer(checked.refusal, raw_sample(checked))
+            let wrong = raw_sample(checked.wrong, checked.place);
+            raw_answer(checked.refusal, checked.sample).map(|()| wrong)
         }
     }
 }

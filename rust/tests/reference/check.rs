@@ -3,7 +3,7 @@ use super::blocks::block;
 use super::fractions::{exact_chroma, exact_luma, within, Exact};
 use super::frame::{chroma_elements, chroma_rows};
 use super::places::{is_u, pixel};
-use super::refusals::frame_refusal;
+use super::refusals::{frame_refusal, Refusal};
 use super::settle::settle;
 use super::storage::read;
 use super::{Frame, Settings};
@@ -38,10 +38,10 @@ pub fn check(
     source: &[u16],
     luma: &[u16],
     chroma: &[u16],
-) -> Result<Option<Sample>, u32> {
+) -> Result<Option<Sample>, Refusal> {
     settle(settings)?;
     if settings.is_custom() {
-        return Err(6);
+        return Err(6.into());
     }
     frame_refusal(settings, frame, [source, luma, chroma])?;
     let is_wrong = |sample: &Sample, word: u16| {

@@ -2,7 +2,7 @@
 use super::blocks::block;
 use super::frame::{chroma_elements, chroma_rows};
 use super::places::{is_u, pixel};
-use super::refusals::frame_refusal;
+use super::refusals::{frame_refusal, Refusal};
 use super::sample::{averaged, code};
 use super::settle::settle;
 use super::storage::word;
@@ -14,7 +14,7 @@ pub fn convert(
     source: &[u16],
     luma: &mut [u16],
     chroma: &mut [u16],
-) -> Result<(), u32> {
+) -> Result<(), Refusal> {
     let [y, cb, cr] = settle(settings)?;
     frame_refusal(settings, frame, [source, luma, chroma])?;
     for row in 0..frame.height {

@@ -1,5 +1,5 @@
-//! Document 01 written afresh, for the tests alone. It shares nothing with the crate but the records of src/raw.rs, and
-//! knows every enumeration by its numbers.
+//! Document 01 with request One of document 02, written afresh for the tests alone. It shares nothing with the crate but
+//! the records of src/raw.rs, and knows every enumeration by its numbers.
 //!
 //! Weights are worked out in f32 step by step, everything else in whole numbers of 128 bits.
 mod blocks;
@@ -21,5 +21,6 @@ pub use check::{check, exact_of, Sample};
 pub use convert::convert;
 pub use fractions::{reach, within};
 pub use frame::pixel_elements;
+pub use refusals::{Refusal, SourcePlace};
 pub use settle::settle;
 pub use storage::{is_formed, word};

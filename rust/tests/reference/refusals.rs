@@ -1,6 +1,30 @@
-//! Refusals 7 to 10, which convert and check share.
+//! What a refusal is, and refusals 7 to 10, which convert and check share.
 use super::places::pixel;
 use super::{Frame, Settings};
+
+/// Row, pixel and channel (0 red, 1 green, 2 blue) of a sample of the source.
+#[derive(Debug, Clone, Copy, PartialEq, Eq)]
+pub struct SourcePlace {
+    pub row: usize,
+    pub pixel: usize,
+    pub channel: usize,
+}
+
+/// The number of a refusal, and what it carries: "Refusal 10 is to carry row, pixel and channel".
+#[derive(Debug, Clone, Copy, PartialEq, Eq)]
+pub struct Refusal {
+    pub number: u32,
+    pub place: Option<SourcePlace>,
+}
+
+impl From<u32> for Refusal {
+    fn from(number: u32) -> Refusal {
+        Refusal {
+            number,
+            place: None,
+        }
+    }
+}
 
 fn size_off(size: usize) -> bool {
     size == 0 || size > 16_384
@@ -10,30 +34,44 @@ fn stride_off(stride: usize, visible: u128) -> bool {
     (stride as u128) < visible || stride > 65_536
 }
 
-fn some_too_large(settings: &Settings, frame: &Frame, source: &[u16]) -> bool {
-    (0..frame.height).any(|row| {
-        (0..frame.width).any(|column| {
-            let pixel = pixel(settings, frame, source, row, column);
-            pixel.iter().any(|&c| c > settings.most())
-        })
-    })
+/// "row, pixel and channel (red before green before blue) of the first too-large visible sample, reading row by row".
+fn first_too_large(settings: &Settings, frame: &Frame, source: &[u16]) -> Option<SourcePlace> {
+    for row in 0..frame.height {
+        for column in 0..frame.width {
+            let colours = pixel(settings, frame, source, row, column);
+            for (channel, &colour) in colours.iter().enumerate() {
+                if colour > settings.most() {
+                    return Some(SourcePlace {
+                        row,
+                        pixel: column,
+                        channel,
+                    });
+                }
+            }
+        }
+    }
+    None
 }
 
 /// The first of refusals 7 to 10 that applies, for settings that settle accepts. The buffers are source, luma and chroma.
-pub fn frame_refusal(settings: &Settings, frame: &Frame, buffers: [&[u16]; 3]) -> Result<(), u32> {
+pub fn frame_refusal(
+    settings: &Settings,
+    frame: &Frame,
+    buffers: [&[u16]; 3],
+) -> Result<(), Refusal> {
     if size_off(frame.width) || size_off(frame.height) {
-        return Err(7);
+        return Err(7.into());
     }
     let strides = frame.strides();
     let visible = frame.visible(settings);
     if (0..3).any(|i| stride_off(strides[i], visible[i])) {
-        return Err(8);
+        return Err(8.into());
     }
     if buffers.map(|b| b.len() as u128) != frame.lengths(settings) {
-        return Err(9);
+        return Err(9.into());
     }
-    if some_too_large(settings, frame, buffers[0]) {
-        return Err(10);
+    match first_too_large(settings, frame, buffers[0]) {
+        None => Ok(()),
+        place => Err(Refusal { number: 10, place }),
     }
-    Ok(())
 }

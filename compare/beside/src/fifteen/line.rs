@@ -115,11 +115,11 @@ impl Line {
         let source = draw::source(settings, &frame, samples, random);
         let mut ours = Planes::filled(frame.luma_length(), frame.chroma_length(settings), 0);
         let mut theirs = ours.clone();
-        let answer = ours::convert(settings, &frame, &source, &mut ours);
+        let refusal = ours::convert(settings, &frame, &source, &mut ours).refusal;
         let fifteen = at_fifteen(settings);
         theirs::convert(&fifteen, &frame, &source, &mut theirs);
         let checked = ours::check(settings, &frame, &source, &theirs);
-        assert_eq!((answer, checked.refusal), (0, 0), "{settings} is settled");
+        assert_eq!((refusal, checked.refusal), (0, 0), "{settings} is settled");
         let is_accepted = checked.wrong == 0;
         if !is_accepted {
             self.not_accepted.push(NotAccepted {
@@ -160,7 +160,8 @@ impl Line {
         let is_unexplained = |frame: &&NotAccepted| !frame.has_pixel_outside;
         let unexplained = self.not_accepted.iter().filter(is_unexplained).count();
         if let Some(first) = self.not_accepted.first() {
-            let plane = ["luma", "chroma"][first.checked.plane as usize];
+            let place = first.checked.place;
+            let plane = ["luma", "chroma"][place.plane as usize];
             println!(
                 "not accepted at depth {}, {}: {} frames, {} of them with a pixel whose sum or code is outside",
                 self.depth,
@@ -170,11 +171,7 @@ impl Line {
             );
             println!(
                 "  the first: {}, {}, {:?}, wrong at {plane} row {} element {}",
-                first.settings,
-                first.frame,
-                first.samples,
-                first.checked.row,
-                first.checked.element
+                first.settings, first.frame, first.samples, place.row, place.element
             );
         }
         unexplained

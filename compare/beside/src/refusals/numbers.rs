@@ -2,6 +2,7 @@
 use crate::caught;
 use crate::frame::{Frame, Planes};
 use crate::ours;
+use crate::raw::ConvertedNumbers;
 use crate::settings::Settings;
 use published::{
     YuvBytesPacking, YuvChromaSubsampling, YuvEndianness, YuvNVOrder, YuvSourceChannels,
@@ -14,7 +15,7 @@ fn named<T: From<u8>>(number: u8) -> String {
     }
 }
 
-fn answer(settings: Settings) -> u32 {
+fn answer(settings: Settings) -> ConvertedNumbers {
     let frame = Frame {
         width: 1,
         height: 1,

@@ -1,6 +1,7 @@
 //! Settings and samples that the library refuses, and what the crate makes of them at the same precision.
 use crate::frame::{Frame, Planes};
 use crate::ours;
+use crate::raw::ConvertedNumbers;
 use crate::settings::{Settings, CUSTOM};
 use crate::theirs;
 use crate::weights;
@@ -27,7 +28,7 @@ const J: Settings = Settings {
 };
 
 /// The library's answer, and the words that the crate stores for one pixel: luma, Cb, Cr.
-fn answers(settings: &Settings, pixel: [u16; 3]) -> (u32, [u16; 3]) {
+fn answers(settings: &Settings, pixel: [u16; 3]) -> (ConvertedNumbers, [u16; 3]) {
     let frame = Frame::padded(settings, 1, 1, [0; 3]);
     let mut planes = Planes::filled(1, 2, 0);
     let answer = ours::convert(settings, &frame, &pixel, &mut planes);

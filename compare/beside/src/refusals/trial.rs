@@ -4,6 +4,7 @@ use super::seen::Seen;
 use crate::frame::{Frame, Planes};
 use crate::ours;
 use crate::random::Random;
+use crate::raw::ConvertedNumbers;
 use crate::settings::Settings;
 use crate::theirs;
 
@@ -62,7 +63,7 @@ impl Trial {
     }
 
     /// The library's answer.
-    pub fn ours(&self) -> u32 {
+    pub fn ours(&self) -> ConvertedNumbers {
         let mut planes = self.planes(0);
         ours::convert(&self.settings, &self.frame, &self.source, &mut planes)
     }
