@@ -47,7 +47,7 @@ fn with_refusal(refusal: u32) -> Case {
         8 => c.luma_stride = 2,
         9 => c.chroma = 5,
         10 => {
-            c.at = 0;
+            c.at = 5;
             c.sample = 1024;
         }
         _ => c.seed = 0,
@@ -81,6 +81,17 @@ fn run_fields() {
     for field in 0..7 {
         run_field(field);
     }
+}
+
+// Each refusal by itself.
+fn run_refusals() {
+    call::run(with_refusal(1));
+    call::run(with_refusal(2));
+    call::run(with_refusal(3));
+    call::run(with_refusal(7));
+    call::run(with_refusal(8));
+    call::run(with_refusal(9));
+    call::run(with_refusal(10));
 }
 
 // Two numbers that name no case.
@@ -120,6 +131,7 @@ fn run_all_settled() {
 
 fn main() {
     run_fields();
+    run_refusals();
     run_each_two();
     run_all_settled();
 }
