@@ -32,7 +32,7 @@ use Rattle.tolerance_laws.proofs.Blocks.{block-at}
 use Rattle.settle.proofs.Verdicts.{weighed}
 use Rattle.frames.specs.Rows.{Rows}
 use Rattle.frames.proofs.Tests.{ready}
-use Rattle.frame_check.proofs.Unique.{accepted-iff}
+use Rattle.check_laws.proofs.Unique.{accepted-iff}
 use Rattle.check_theorem.proofs.Words.{luma-right, chroma-right}
 
 -- ---- planes that a low picture was written into are clean

@@ -28,7 +28,7 @@ use Rattle.rule_laws.proofs.Refusals.{reached, alone}
 use Rattle.rule_laws.proofs.Answers.{declined}
 use Rattle.plane_laws.proofs.Searches.{found-wrong}
 use Rattle.frames.proofs.Tests.{sample-of}
-use Rattle.frame_check.proofs.Unique.{refused-iff}
+use Rattle.check_laws.proofs.Unique.{refused-iff}
 use Rattle.place_theorem.specs.FirstTooLarge.{FirstTooLarge, Carries}
 
 -- ---- 10 comes from its own line, the last of the frame's

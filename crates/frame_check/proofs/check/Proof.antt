@@ -8,7 +8,7 @@ use Rattle.rule_laws.proofs.Refusals.{passed-on, refused-before}
 use Rattle.rule_laws.proofs.Answers.{by-refusing}
 use Rattle.rule_laws.proofs.Settling.{weighed-passes, refused-refuses}
 use Rattle.settle.specs.Promised.{Promised}
-use Rattle.frame_check.proofs.Joined.{carried}
+use Rattle.check_laws.proofs.Joined.{carried}
 use Rattle.frame_check.proofs.check.Statement.{statement}
 use Rattle.frame_check.proofs.check.Tie as tie
 

@@ -4,7 +4,7 @@ use mathlib.Core.Path.{sym, ap, _∙_}
 use Rattle.rules.specs.Check.{isCustom, judgement}
 use Rattle.rule_laws.proofs.Refusals.{stopped, skipped}
 use Rattle.rule_laws.proofs.Answers.{by-refusing}
-use Rattle.frame_check.proofs.Joined.{carried}
+use Rattle.check_laws.proofs.Joined.{carried}
 use Rattle.frame_check.proofs.check_matrix.Statement.{statement}
 use Rattle.frame_check.proofs.check_matrix.Tie as tie
 

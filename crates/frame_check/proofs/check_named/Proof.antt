@@ -7,7 +7,7 @@ use Rattle.frames.specs.Tests.{Clear}
 use Rattle.rules.specs.Refusals.{lineOf}
 use Rattle.rules.specs.Check.{judgement}
 use Rattle.rule_laws.proofs.Answers.{by-passing, by-refusing}
-use Rattle.frame_check.proofs.Joined.{by-row}
+use Rattle.check_laws.proofs.Joined.{by-row}
 use Rattle.frame_check.proofs.check_named.Statement.{statement}
 use Rattle.frame_check.proofs.check_named.Tie as tie
 

@@ -5,7 +5,7 @@ use native.Mathlib.Omega.{arith}
 use Rattle.rules.specs.Answers.{given, placeValues}
 use Rattle.plane_laws.proofs.Searches.{found-wrong}
 use Rattle.blocks.proofs.Tiles.{width-small, height-small}
-use Rattle.frame_check.proofs.Joined.{placed, luma-wrong, chroma-wrong, both-right}
+use Rattle.check_laws.proofs.Joined.{placed, luma-wrong, chroma-wrong, both-right}
 use Rattle.frame_check.proofs.check_settled.Statement.{statement}
 use Rattle.frame_check.proofs.check_settled.Tie as tie
 

@@ -1,3 +1,3 @@
-pub mod Unique
 pub mod Joined
+pub mod Unique
 pub mod Colours

@@ -27,7 +27,7 @@ use Rattle.rules.specs.Check.{lumaTest, chromaTest, isCustom, checkLines, first
 use Rattle.rule_laws.proofs.Refusals.{parted, passed-by}
 use Rattle.rule_laws.proofs.Answers.{one-checked}
 use Rattle.plane_laws.proofs.Searches.{clean-none, none-clean, first-found, found-wrong}
-use Rattle.frame_check.proofs.Joined.{by-row, luma-wrong, chroma-wrong, both-right}
+use Rattle.check_laws.proofs.Joined.{by-row, luma-wrong, chroma-wrong, both-right}
 
 -- ---- the answers that two searches come to
 

@@ -24,7 +24,7 @@ use Rattle.rule_laws.proofs.Answers.{one-checked}
 use Rattle.plane_laws.proofs.Searches.{same-search}
 use Rattle.frames.specs.Sources.{SameColours, SamePicture}
 use Rattle.frames.proofs.Sources.{pictures, same-block, same-lines}
-use Rattle.frame_check.specs.Colours.{SameAnswer}
+use Rattle.check_laws.specs.Colours.{SameAnswer}
 
 -- pictures that agree on the visible pixels are judged the same
 module _ (s : Settings) (f : Frame) (px px′ : Picture) (h : SamePicture (f .width) (f .height) px px′) (luma chroma : List ℕ) where
