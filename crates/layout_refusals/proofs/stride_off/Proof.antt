@@ -1,4 +1,4 @@
--- `frame_refusals::stride_off` meets its contract. Assumes nothing.
+-- `layout_refusals::stride_off` meets its contract. Assumes nothing.
 use borrow.Author.Needs.{needs}
 use mathlib.Core.Path.{_≡_, sym, ap, _∙_}
 use Prim.Native.Nat.{ℕ, _*_}
@@ -7,8 +7,8 @@ use Rattle.rules.specs.Channels.{count}
 use Rattle.rules.specs.Refusals.{outside}
 use Rattle.plane_laws.proofs.Tests.{or-yes, or-no}
 use Rattle.frames.proofs.Places.{row-small}
-use Rattle.frame_refusals.proofs.stride_off.Statement.{statement}
-use Rattle.frame_refusals.proofs.stride_off.Tie as tie
+use Rattle.layout_refusals.proofs.stride_off.Statement.{statement}
+use Rattle.layout_refusals.proofs.stride_off.Tie as tie
 
 -- what the first test says of the source's stride
 source-told : (c : tie.After-outside) → let a = c .before .before .before .args in c .outside .result ≡ outside (a .f .width * count (a .s .channels)) 65536 (a .f .«source_stride»)

@@ -1,9 +1,9 @@
--- `frame_refusals::size_off` meets its contract. Assumes nothing.
+-- `layout_refusals::size_off` meets its contract. Assumes nothing.
 use borrow.Author.Needs.{needs}
 use mathlib.Core.Path.{sym, _∙_}
 use Rattle.plane_laws.proofs.Tests.{or-yes, or-no}
-use Rattle.frame_refusals.proofs.size_off.Statement.{statement}
-use Rattle.frame_refusals.proofs.size_off.Tie as tie
+use Rattle.layout_refusals.proofs.size_off.Statement.{statement}
+use Rattle.layout_refusals.proofs.size_off.Tie as tie
 
 outside-requires : tie.Need-outside-requires
 outside-requires c κs = search needs

@@ -1,8 +1,8 @@
--- `frame_refusals::outside` meets its contract. Assumes nothing.
+-- `layout_refusals::outside` meets its contract. Assumes nothing.
 use mathlib.Core.Path.{sym}
 use Rattle.rule_laws.proofs.Refusals.{below, from}
-use Rattle.frame_refusals.proofs.outside.Statement.{statement}
-use Rattle.frame_refusals.proofs.outside.Tie as tie
+use Rattle.layout_refusals.proofs.outside.Statement.{statement}
+use Rattle.layout_refusals.proofs.outside.Tie as tie
 
 returns : tie.Need-returns
 returns c = sym (below _ _ _ (c .if1 .taken))

@@ -1,4 +1,4 @@
--- `frame_refusals::length_off` meets its contract. Assumes nothing.
+-- `layout_refusals::length_off` meets its contract. Assumes nothing.
 use borrow.Author.Needs.{needs}
 use mathlib.Core.Path.{sym, ap, _∙_}
 use mathlib.Core.Bool.{not}
@@ -10,8 +10,8 @@ use borrow.Author.Tests.{eq-eqb, ne-eqb}
 use Rattle.rules.specs.Blocks.{chromaHeight}
 use Rattle.plane_laws.proofs.Tests.{or-yes, or-no}
 use Rattle.blocks.proofs.Tiles.{height-small}
-use Rattle.frame_refusals.proofs.length_off.Statement.{statement}
-use Rattle.frame_refusals.proofs.length_off.Tie as tie
+use Rattle.layout_refusals.proofs.length_off.Statement.{statement}
+use Rattle.layout_refusals.proofs.length_off.Tie as tie
 
 mul-if1 : tie.Need-mul-if1
 mul-if1 c = let h = mul-le-mul (c .before .pre .0 .flat) (c .before .pre .1 .sourceMost) in omega arith
