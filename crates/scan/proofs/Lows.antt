@@ -1,11 +1,10 @@
--- Rows and pictures of which no sample exceeds m, and that nothing is found in them. Assumes nothing.
-use mathlib.Core.Path.{_≡_, refl, sym, ap, _∙_, subst}
+-- Pictures of which no sample exceeds m, and that nothing is found in them. Assumes nothing.
+use mathlib.Core.Path.{_≡_, sym, ap, _∙_, subst}
 use mathlib.Core.Bool.{true}
 use mathlib.Core.List.{List}
-use Prim.Native.Nat.{ℕ, zero, suc, _+_, _*_, _/_, _%_, _≤_, _<_}
-use native.Mathlib.Nat.{le-trans, mul-mod-left, mul-add-mod-self-right, mod-eq-of-lt}
+use Prim.Native.Nat.{ℕ, _+_, _*_, _/_, _%_, _≤_, _<_}
+use native.Mathlib.Nat.{mul-mod-left, mul-add-mod-self-right, mod-eq-of-lt}
 use native.Mathlib.Omega.{arith}
-use lib.Dec.{leb}
 use lib.ListN.{length, getD}
 use borrow.Author.Tests.{le-leb}
 use borrow.Author.Count.{below-more}
@@ -15,49 +14,21 @@ use Rattle.rules.specs.declared.YuvSourceChannels.{YuvSourceChannels}
 use Rattle.rules.specs.declared.Search.the-variants.{Nothing}
 use Rattle.rules.specs.Channels.{Picture, count, picture}
 use Rattle.rules.specs.Search.{Clean}
-use Rattle.rules.specs.Frames.{channelOf, colourSample, lowTest, tooLarge}
+use Rattle.rules.specs.Frames.{colourSample, lowTest, tooLarge}
 use Rattle.rule_laws.specs.Codes.{Low}
-use Rattle.plane_laws.proofs.Tables.{step-le}
 use Rattle.plane_laws.proofs.Searches.{clean-none}
 use Rattle.frames.specs.Rows.{rowPixel, Shows, LowRow, LowPicture}
 use Rattle.frames.specs.SourceRows.{SourceRow}
 use Rattle.row_bounds.specs.Bounds.{Alike, BoundsAt, Bounds}
-use Rattle.scan.specs.Fours.{sampleOf, LowFour}
 use Rattle.frames.proofs.Places.{places}
+use Rattle.row_search.proofs.Lows.{placed-low, low-channel}
+use Rattle.scan.specs.Fours.{LowFour}
 
 -- ---- what is low
-
--- a greater bound
-pub row-less : {m n width : ℕ} {p : ℕ → Pixel} → m ≤ n → LowRow m p width → LowRow n p width
-row-less h l =
-    record { low = λ x b. let k = l .low x b in record { red = le-trans (k .red) h; green = le-trans (k .green) h; blue = le-trans (k .blue) h } }
 
 -- the same row, as a part of a buffer shows it
 pub row-shown : {c : YuvSourceChannels} {part : List ℕ} {px : Picture} {m width row : ℕ} → Shows c part px row width → LowRow m (rowPixel c part) width → LowRow m (px row) width
 row-shown {m} e l = record { low = λ x b. subst (Low m) (e .same x b) (l .low x b) }
-
--- every element of a part at which no alpha stands
-placed-low : (c : YuvSourceChannels) (m width : ℕ) (part : List ℕ) → width * count c ≤ length part → ((x k : ℕ) → x < width → k < 3 → x * count c + k < length part → getD part (x * count c + k) 0 ≤ m) → LowRow m (rowPixel c part) width
-placed-low c m width part fits h =
-    record {
-      low = λ x b.
-          let k = places c in
-          let e = step-le x width (count c) (length part) b fits in
-          record { red = h x _ b (k .red) (omega (arith, k .red)); green = h x _ b (k .green) (omega (arith, k .green)); blue = h x _ b (k .blue) (omega (arith, k .blue)) };
-    }
-
--- one row, four times
-module _ (c : YuvSourceChannels) (width : ℕ) (part : List ℕ) (long : length part ≡ width * count c) where
-  pub itself : Alike (count c) part part part part
-  itself = record { whole = ap (λ (n : ℕ). n % count c) long ∙ mul-mod-left width (count c); second = refl; third = refl; fourth = refl }
-
-  pub bounded : {m n : ℕ} → n ≤ m → Bounds n (count c) part part part part → LowRow m (rowPixel c part) width
-  bounded {m} {n} l h =
-      row-less l
-      (placed-low c n width part (omega (arith, long))
-      (λ x d w b inside.
-      let e = mul-add-mod-self-right x (count c) d ∙ mod-eq-of-lt (omega (arith, places c .least, b)) in
-      h .each (x * count c + d) inside (omega (arith, e, b)) .first))
 
 -- four rows of a source, side by side
 module _ {c : YuvSourceChannels} {f : Frame} {source : List ℕ} {i j k l : ℕ} {o p q r : List ℕ} (one : SourceRow c f source i o) (two : SourceRow c f source j p) (three : SourceRow c f source k q) (four : SourceRow c f source l r) where
@@ -97,15 +68,6 @@ pub all-low : (c : YuvSourceChannels) (m stride width height : ℕ) (source : Li
 all-low c m stride width height source h = record { low = λ row b. record { low = λ x l. record { red = h _; green = h _; blue = h _ } } }
 
 -- ---- nothing is found there
-
-low-channel : (m n : ℕ) (p : Pixel) → Low m p → channelOf n p ≤ m
-low-channel m zero p l = l .red
-low-channel m (suc zero) p l = l .green
-low-channel m (suc (suc n)) p l = l .blue
-
--- no colour sample of a row fails, nor of the part that shows it
-pub part-low : (c : YuvSourceChannels) (m width : ℕ) (part : List ℕ) → LowRow m (rowPixel c part) width → (i : ℕ) → i < 3 * width → leb (sampleOf c part i) m ≡ true
-part-low c m width part l i b = le-leb (sampleOf c part i) m (low-channel m (i % 3) (rowPixel c part (i / 3)) (l .low (i / 3) (omega arith)))
 
 sample-low : (m row width : ℕ) (px : Picture) → LowRow m (px row) width → (i : ℕ) → i < 3 * width → lowTest m px row i ≡ true
 sample-low m row width px l i b = le-leb (colourSample px row i) m (low-channel m (i % 3) (px row (i / 3)) (l .low (i / 3) (omega arith)))

@@ -1,18 +1,15 @@
 // Refusal 10: the first visible colour sample that exceeds m, reading row by row.
 ghost use mathlib.Core.Path.{_≡_};
 ghost use Prim.Native.Nat.{_*_, _<_, _≤_};
-ghost use lib.Dec.{leb};
 ghost use lib.ListN.{length};
 ghost use Rattle.rules.specs.Channels.{count, picture};
-ghost use Rattle.rules.specs.Search.{firstBelow, failing, isFound};
-ghost use Rattle.rules.specs.Frames.{channelOf, tooLarge};
+ghost use Rattle.rules.specs.Search.{isFound};
+ghost use Rattle.rules.specs.Frames.{tooLarge};
 ghost use Rattle.frames.specs.Rows.{Rows, LowPicture};
-ghost use Rattle.scan.specs.Fours.{sampleOf, LowFour};
+ghost use Rattle.scan.specs.Fours.{LowFour};
 ghost use Rattle.frames.specs.Tests.{Sized};
-use frames::pixels;
 use frames::rows;
 use rules::Frame;
-use rules::Pixel;
 use rules::Search;
 use rules::YuvSourceChannels;
 
@@ -23,46 +20,6 @@ fn is_found(s: Search) -> bool
         Search::Nothing => false,
         Search::At(row, element) => true,
     }
-}
-
-// Channel 0 of a pixel is red, 1 green and 2 blue.
-fn channel_of(channel: usize, p: Pixel) -> u16
-    ensures { λ r. ⌜ r ≡ channelOf channel p ⌝ }
-{
-    if channel == 0 {
-        return p.red;
-    }
-    if channel == 1 {
-        return p.green;
-    }
-    p.blue
-}
-
-// Colour sample i of a row part: red, green and blue of the first pixel, then of the next.
-fn colour_sample(channels: YuvSourceChannels, part: &[u16], width: usize, i: usize) -> u16
-    requires { ⌜ (i < 3 * width) × (width * count channels ≤ length (now part)) ⌝ }
-    ensures { λ r. ⌜ r ≡ sampleOf channels (now (part .entry)) i ⌝ }
-{
-    channel_of(i % 3, pixels::row_pixel(channels, part, width, i / 3))
-}
-
-// The first colour sample of a row that exceeds m, by the row part that shows it; a row whose bound is at most m is not searched.
-fn row_high(m: u16, channels: YuvSourceChannels, width: usize, row: usize, part: &[u16]) -> Search
-    requires { ⌜ (width ≤ 16384) × (length (now part) ≡ width * count channels) ⌝ }
-    ensures { λ r. ⌜ r ≡ firstBelow (3 * width) (λ i. failing (leb (sampleOf channels (now (part .entry)) i) m) row i) ⌝ }
-{
-    if row_bounds::four_rows(channels, part, part, part, part) <= (m as u64) {
-        return Search::Nothing;
-    }
-    let samples = 3 * width;
-    let mut i = 0;
-    while i < samples {
-        if m < colour_sample(channels, part, width, i) {
-            return Search::At(row, i);
-        }
-        i += 1;
-    }
-    Search::Nothing
 }
 
 fn least(a: usize, b: usize) -> usize
@@ -122,7 +79,7 @@ pub fn too_large(m: u16, channels: YuvSourceChannels, f: Frame, source: &[u16]) 
     let mut row = rows_low(m, channels, f, source);
     while row < height {
         let part = rows::source_row(channels, f, source, row);
-        let found = row_high(m, channels, width, row, part);
+        let found = row_search::first_high(m, channels, width, row, part);
         if is_found(found) {
             return found;
         }

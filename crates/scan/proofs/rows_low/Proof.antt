@@ -7,7 +7,7 @@ use native.Mathlib.Omega.{arith}
 use Rattle.rules.specs.Channels.{picture}
 use Rattle.plane_laws.proofs.Tests.{lt-or-le}
 use Rattle.frames.specs.Rows.{LowRow}
-use Rattle.scan.proofs.Lows.{row-less}
+use Rattle.row_search.proofs.Lows.{row-less}
 use Rattle.scan.proofs.rows_low.Statement.{statement}
 use Rattle.scan.proofs.rows_low.Tie as tie
 

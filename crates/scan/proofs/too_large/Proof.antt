@@ -41,11 +41,11 @@ unfolding firstFailing
 none-in m n f px l = clean-none (lowTest m px) (3 * f .width) n (rows-clean m (f .width) n px l)
 
 -- what was found in the row part, said of the source
-told : (c : tie.After-row-high Inv-loop μ-loop) → c .row-high .result ≡ search-row (c .before .before .before .before .before .before .before) (c .before .before .before .loop .row)
+told : (c : tie.After-first-high Inv-loop μ-loop) → c .first-high .result ≡ search-row (c .before .before .before .before .before .before .before) (c .before .before .before .loop .row)
 told c =
     let v = c .before .before .before .before .before .before .before .args in
     let row = c .before .before .before .loop .row in
-    c .row-high .ensures
+    c .first-high .ensures
     ∙ first-ext (3 * v .f .width) _ _ (λ i h. ap (λ (p : Pixel). failing (leb (channelOf (i % 3) p) (v .m)) row i) (c .before .source-row .ensures .shows .same (i / 3) (omega (arith, h))))
 
 asked : (c : tie.After-is-found Inv-loop μ-loop) (t : Bool) → c .is-found .result ≡ t → isFound (search-row (c .before .before .before .before .before .before .before .before) (c .before .before .before .before .loop .row)) ≡ t
@@ -65,8 +65,8 @@ loop-holds c = (c .rows-low .ensures .0, none-in _ _ (c .before .before .before 
 source-row-requires : tie.Need-source-row-requires Inv-loop μ-loop
 source-row-requires c κs = search needs
 
-row-high-requires : tie.Need-row-high-requires Inv-loop μ-loop
-row-high-requires c κs = (c .before .before .before .before .before .before .pre .0 .narrow, c .source-row .ensures .long)
+first-high-requires : tie.Need-first-high-requires Inv-loop μ-loop
+first-high-requires c κs = (c .before .before .before .before .before .before .pre .0 .narrow, c .source-row .ensures .long)
 
 is-found-requires : tie.Need-is-found-requires Inv-loop μ-loop
 is-found-requires c κs = tt
@@ -101,7 +101,7 @@ too-large-spec =
     rows-low-requires
     loop-holds
     source-row-requires
-    row-high-requires
+    first-high-requires
     is-found-requires
     returns-2
     add-row

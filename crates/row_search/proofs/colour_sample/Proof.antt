@@ -1,12 +1,12 @@
--- `scan::colour_sample` meets its contract. Assumes nothing.
+-- `row_search::colour_sample` meets its contract. Assumes nothing.
 use borrow.Author.Needs.{needs}
 use mathlib.Core.Path.{ap, _∙_}
 use Prim.Native.Nat.{_%_}
 use native.Mathlib.Omega.{arith}
 use Rattle.rules.specs.declared.Pixel.{Pixel}
 use Rattle.rules.specs.Frames.{channelOf}
-use Rattle.scan.proofs.colour_sample.Statement.{statement}
-use Rattle.scan.proofs.colour_sample.Tie as tie
+use Rattle.row_search.proofs.colour_sample.Statement.{statement}
+use Rattle.row_search.proofs.colour_sample.Tie as tie
 
 row-pixel-requires : tie.Need-row-pixel-requires
 row-pixel-requires c κs = (omega (arith, c .before .pre .0), c .before .pre .1)

@@ -1,4 +1,4 @@
--- `scan::row_high` meets its contract: no sample that was passed exceeds m. Assumes nothing.
+-- `row_search::first_high` meets its contract: no sample that was passed exceeds m. Assumes nothing.
 use mathlib.Core.Path.{_≡_, sym, ap, _∙_}
 use mathlib.Core.Bool.{Bool, false}
 use Prim.Native.Nat.{ℕ, _*_, _-_, _≤_}
@@ -9,10 +9,10 @@ use Rattle.rules.specs.declared.Search.{Search}
 use Rattle.rules.specs.declared.Search.the-variants.{Nothing, At}
 use Rattle.rules.specs.Search.{firstBelow, failing, isFound}
 use Rattle.plane_laws.proofs.Searches.{none-yet, none-more, found-first, none-all}
-use Rattle.scan.specs.Fours.{sampleOf}
-use Rattle.scan.proofs.Lows.{itself, bounded, part-low}
-use Rattle.scan.proofs.row_high.Statement.{statement}
-use Rattle.scan.proofs.row_high.Tie as tie
+use Rattle.row_search.specs.RowSamples.{sampleOf}
+use Rattle.row_search.proofs.Lows.{itself, bounded, part-low}
+use Rattle.row_search.proofs.first_high.Statement.{statement}
+use Rattle.row_search.proofs.first_high.Tie as tie
 
 abbrev Inv-loop : tie.InvT-loop
 Inv-loop m channels width row part samples i₀ i = (i ≤ 3 * width) × (firstBelow i (λ n. failing (leb (sampleOf channels part n) m) row n) ≡ Nothing)
@@ -79,8 +79,8 @@ returns-3 c =
     let e : c .before .loop .i ≡ 3 * s .args .width = omega (arith, c .loop-test .left, c .before .loop .inv .0) in
     sym (ap (λ (n : ℕ). firstBelow n (found s)) (sym e) ∙ c .before .loop .inv .1)
 
-pub row-high-spec : {M : Type 1} → statement M
-row-high-spec =
+pub first-high-spec : {M : Type 1} → statement M
+first-high-spec =
     tie.close
     (tie.spec
     Inv-loop

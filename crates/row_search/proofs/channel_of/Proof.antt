@@ -1,12 +1,12 @@
--- `scan::channel_of` meets its contract. Assumes nothing.
+-- `row_search::channel_of` meets its contract. Assumes nothing.
 use borrow.Author.Needs.{needs}
 use mathlib.Core.Path.{_≡_, refl}
 use Prim.Native.Nat.{ℕ, zero, suc, _≤_}
 use native.Mathlib.Omega.{arith}
 use Rattle.rules.specs.declared.Pixel.{Pixel}
 use Rattle.rules.specs.Frames.{channelOf}
-use Rattle.scan.proofs.channel_of.Statement.{statement}
-use Rattle.scan.proofs.channel_of.Tie as tie
+use Rattle.row_search.proofs.channel_of.Statement.{statement}
+use Rattle.row_search.proofs.channel_of.Tie as tie
 
 last-channel : (n : ℕ) (p : Pixel) → 2 ≤ n → p .blue ≡ channelOf n p
 last-channel zero p h = absurd (let z : _≡_ {A = ℕ} 0 1 = omega arith in omega arith)
