@@ -6,7 +6,6 @@ ghost use Rattle.settle.specs.Promised.{Promised};
 use rules::Refusal;
 use rules::Settings;
 use rules::Settled;
-use settings_refusals::codes;
 use settings_refusals::pairs;
 use yuv_support::matrices;
 
@@ -30,7 +29,7 @@ pub fn settle(s: Settings) -> Settled
     if weight_nearness::weight_off(s, matrix, w) {
         return Settled::Refused(Refusal::WeightOff);
     }
-    if codes::some_code_off(s, w) {
+    if code_refusals::some_code_off(s, w) {
         return Settled::Refused(Refusal::CodeOutside);
     }
     Settled::Weighed(w)

@@ -1,4 +1,4 @@
--- `settings_refusals::codes::code_off` meets its contract. Assumes nothing.
+-- `code_refusals::code_off` meets its contract. Assumes nothing.
 use borrow.Author.Needs.{needs}
 use mathlib.Core.Path.{_≡_, sym, ap, _∙_}
 use native.Mathlib.Omega.{arith}
@@ -10,9 +10,9 @@ use mir.ValLaws.{toZ-pos}
 use Rattle.rules.specs.Sample.{signedCode}
 use Rattle.rules.specs.Settle.{codeOff}
 use Rattle.integer_laws.proofs.Machine.{got}
-use Rattle.settings_refusals.proofs.Tests.{off-low, off-high}
-use Rattle.settings_refusals.proofs.codes.code_off.Statement.{statement}
-use Rattle.settings_refusals.proofs.codes.code_off.Tie as tie
+use Rattle.code_refusals.proofs.Tests.{off-low, off-high}
+use Rattle.code_refusals.proofs.code_off.Statement.{statement}
+use Rattle.code_refusals.proofs.code_off.Tie as tie
 
 -- what is read back of the code
 code : (c : tie.After-signed-code) → let a = c .before .args in toZ w64 (ofZ w64 (c .signed-code .result)) ≡ signedCode (a .precision) (a .bias) (a .w) (a .p)

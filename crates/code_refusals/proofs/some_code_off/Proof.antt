@@ -1,4 +1,4 @@
--- `settings_refusals::codes::some_code_off` meets its contract. Assumes nothing.
+-- `code_refusals::some_code_off` meets its contract. Assumes nothing.
 use borrow.Author.Needs.{needs}
 use mathlib.Core.Path.{_≡_, sym, ap, _∙_}
 use Prim.Native.Nat.{_≤_}
@@ -8,8 +8,8 @@ use Rattle.rules.specs.Weights.{lumaRow, cbRow, crRow}
 use Rattle.rules.specs.Settle.{colour, codeOff, someCodeOff}
 use Rattle.yuv_support.specs.declared.ranges.YuvChromaRange.{YuvChromaRange}
 use Rattle.rule_laws.proofs.Depths.{sane}
-use Rattle.settings_refusals.proofs.codes.some_code_off.Statement.{statement}
-use Rattle.settings_refusals.proofs.codes.some_code_off.Tie as tie
+use Rattle.code_refusals.proofs.some_code_off.Statement.{statement}
+use Rattle.code_refusals.proofs.some_code_off.Tie as tie
 
 -- what the tests of one code ask for
 biases : (c : tie.After-get-yuv-range) → let p = c .before .before .args .s .precision in (1 ≤ p) × (p ≤ 13) × (c .get-yuv-range .result .«bias_y» ≤ 65535) × (c .get-yuv-range .result .«bias_uv» ≤ 65535)
