@@ -7,7 +7,6 @@ use rules::Refusal;
 use rules::Settings;
 use rules::Settled;
 use settings_refusals::pairs;
-use yuv_support::matrices;
 
 // The nine weights of the settings, or the first of refusals 1 to 5 that applies.
 pub fn settle(s: Settings) -> Settled

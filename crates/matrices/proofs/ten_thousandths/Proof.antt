@@ -1,11 +1,11 @@
--- `yuv_support::matrices::ten_thousandths` meets its contract. Assumes nothing.
+-- `matrices::ten_thousandths` meets its contract. Assumes nothing.
 use borrow.Author.Needs.{needs}
 use mathlib.Core.Path.{ap, _∙_}
 use native.Mathlib.Omega.{arith}
 use lib.Ieee.{Float, binary32, div, ofBits}
 use Rattle.float_laws.proofs.TenThousandths.{tenThousand, ten-thousandths}
-use Rattle.yuv_support.proofs.matrices.ten_thousandths.Statement.{statement}
-use Rattle.yuv_support.proofs.matrices.ten_thousandths.Tie as tie
+use Rattle.matrices.proofs.ten_thousandths.Statement.{statement}
+use Rattle.matrices.proofs.ten_thousandths.Tie as tie
 
 nearest-u32-to-f32-requires : tie.Need-nearest-u32-to-f32-requires
 nearest-u32-to-f32-requires c κs = search needs

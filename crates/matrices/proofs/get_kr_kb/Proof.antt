@@ -1,4 +1,4 @@
--- `yuv_support::matrices::get_kr_kb` meets its contract. Assumes nothing.
+-- `matrices::get_kr_kb` meets its contract. Assumes nothing.
 use borrow.Author.Needs.{needs}
 use mathlib.Core.Path.{_≡_, sym, ap, _∙_}
 use Prim.Native.Nat.{_+_, _≤_}
@@ -7,8 +7,8 @@ use Rattle.rules.specs.declared.Matrix.the-variants.{Tabled}
 use Rattle.rules.specs.Matrices.{matrixOf}
 use Rattle.rules.specs.Weights.{pair, pairOf}
 use Rattle.rule_laws.proofs.Depths.{tabled-sum}
-use Rattle.yuv_support.proofs.matrices.get_kr_kb.Statement.{statement}
-use Rattle.yuv_support.proofs.matrices.get_kr_kb.Tie as tie
+use Rattle.matrices.proofs.get_kr_kb.Statement.{statement}
+use Rattle.matrices.proofs.get_kr_kb.Tie as tie
 
 -- the matrix is a row of the table
 tabled : (c : tie.After-known-told) → let k = c .before .m .given .0 .0 in matrixOf (c .before .before .before .before .args .matrix) ≡ Tabled k

@@ -1,4 +1,4 @@
-// The table of matrices, and the pair of floats that a matrix uses.
+// Carried over from src/yuv_support.rs: the table of matrices, and the pair of floats that a matrix uses.
 ghost use mathlib.Core.Path.{_≡_};
 ghost use Rattle.rules.specs.Matrices.{matrixOf};
 ghost use Prim.Native.Nat.{_≤_};
