@@ -21,7 +21,6 @@ use rules::Settings;
 use rules::Settled;
 use rules::Verdict;
 use settle::settle;
-use yuv_support::matrices;
 
 // A place by numbers of 32 bits, which those of a frame fit.
 fn place_of(plane: u32, row: usize, element: usize) -> Place

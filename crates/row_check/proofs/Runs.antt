@@ -18,11 +18,11 @@ use Rattle.check_limits.specs.declared.SettingsLimits.{SettingsLimits}
 use Rattle.check_limits.specs.Limits.{LimitsOf}
 use Rattle.sample_check.specs.Samples.{blockRight, chromaElementRight}
 use Rattle.gauges.proofs.Gauged.{chroma-true}
-use Rattle.gauged_rows.specs.declared.chroma.Ruler.{Ruler}
-use Rattle.gauged_rows.specs.Pairing.{wholePairs, pairNear}
-use Rattle.gauged_rows.specs.Prefixes.{Passed}
-use Rattle.gauged_rows.proofs.Prefixes.{passed-pairs}
-use Rattle.gauged_rows.proofs.Pairs.{u-low, v-low, whole-inside, whole-wide, both-near}
+use Rattle.gauges.specs.Prefixes.{Passed}
+use Rattle.gauges.proofs.Prefixes.{passed-pairs}
+use Rattle.gauged_chroma.specs.declared.Ruler.{Ruler}
+use Rattle.gauged_chroma.specs.Pairing.{wholePairs, pairNear}
+use Rattle.gauged_chroma.proofs.Pairs.{u-low, v-low, whole-inside, whole-wide, both-near}
 use Rattle.row_check.specs.Rulers.{rulerOf}
 use Rattle.row_check.proofs.Elements.{WordRight, elements}
 

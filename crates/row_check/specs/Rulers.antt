@@ -6,7 +6,7 @@ use Rattle.blocks.specs.Tiles.{paired}
 use Rattle.check_limits.specs.declared.SettingsLimits.{SettingsLimits}
 use Rattle.check_limits.specs.Limits.{ownLimit}
 use Rattle.gauges.specs.Gauges.{factorOf, sharesOf, gaugeOf}
-use Rattle.gauged_rows.specs.declared.chroma.Ruler.{Ruler}
+use Rattle.gauged_chroma.specs.declared.Ruler.{Ruler}
 
 -- by whether their blocks have two rows
 abbrev pub rulerOf : Settings → Named → SettingsLimits → Bool → Ruler

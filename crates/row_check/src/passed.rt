@@ -8,13 +8,11 @@ ghost use Rattle.rules.specs.Blocks.{chromaWidth};
 ghost use Rattle.rule_laws.specs.Usable.{Reach};
 ghost use Rattle.check_limits.specs.Limits.{LimitsOf};
 ghost use Rattle.sample_check.specs.Samples.{lumaElementRight, chromaElementRight};
-ghost use Rattle.gauged_rows.specs.Pairing.{RulerBounded};
-ghost use Rattle.gauged_rows.specs.Prefixes.{Passed};
+ghost use Rattle.gauges.specs.Prefixes.{Passed};
+ghost use Rattle.gauged_chroma.specs.Pairing.{RulerBounded};
 ghost use Rattle.row_check.specs.Rulers.{rulerOf};
 use check_limits::SettingsLimits;
-use gauged_rows::chroma;
-use gauged_rows::chroma::Ruler;
-use gauged_rows::luma;
+use gauged_chroma::Ruler;
 use gauges::gauge;
 use rules::Named;
 use rules::Settings;
@@ -43,7 +41,7 @@ pub fn luma_passed(
     let factor = storage::packing_factor(packing, s.depth);
     let h = gauge::shares_of(k, ranges.range_y, factor);
     let g = gauge::gauge_of(ranges.bias_y, limit, factor);
-    luma::luma_run(channels, endianness, h, g, width, pixels, luma)
+    gauged_luma::luma_run(channels, endianness, h, g, width, pixels, luma)
 }
 
 // What the pairs of a chroma row are compared by, by whether their blocks have two rows.
@@ -101,5 +99,5 @@ pub fn chroma_passed(
     }
     let subsampling = s.subsampling;
     let ruler = ruler_of(s, k, limits, two);
-    2 * chroma::chroma_run(subsampling, ruler, width, two, top, low, chroma)
+    2 * gauged_chroma::chroma_run(subsampling, ruler, width, two, top, low, chroma)
 }

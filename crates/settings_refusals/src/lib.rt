@@ -1,8 +1,7 @@
-// Refusals 1, 2, 3 and 5, a function for each: the depth, the precision, a custom pair, and a code outside 0 to m.
+// Refusals 1, 2 and 3, a function for each: the depth, the precision, and a custom pair.
 ghost use mathlib.Core.Path.{_≡_};
 ghost use Rattle.rules.specs.Refusals.{outside};
 
-pub mod codes;
 pub mod pairs;
 
 use rules::Settings;

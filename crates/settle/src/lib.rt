@@ -6,9 +6,7 @@ ghost use Rattle.settle.specs.Promised.{Promised};
 use rules::Refusal;
 use rules::Settings;
 use rules::Settled;
-use settings_refusals::codes;
 use settings_refusals::pairs;
-use yuv_support::matrices;
 
 // The nine weights of the settings, or the first of refusals 1 to 5 that applies.
 pub fn settle(s: Settings) -> Settled
@@ -30,7 +28,7 @@ pub fn settle(s: Settings) -> Settled
     if weight_nearness::weight_off(s, matrix, w) {
         return Settled::Refused(Refusal::WeightOff);
     }
-    if codes::some_code_off(s, w) {
+    if code_refusals::some_code_off(s, w) {
         return Settled::Refused(Refusal::CodeOutside);
     }
     Settled::Weighed(w)

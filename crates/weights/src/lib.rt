@@ -10,7 +10,6 @@ ghost use Rattle.weights.specs.Held.{Held};
 use rules::CbCrForwardTransform;
 use rules::Settings;
 use rules::Weights;
-use yuv_support::matrices;
 use yuv_support::ranges;
 
 pub fn get_forward_transform(

@@ -1,4 +1,3 @@
-// Carried over from src/yuv_support.rs: ranges, channel and chroma places, and matrices; its weights are the crate `weights`.
+// Carried over from src/yuv_support.rs: ranges, and channel and chroma places; its matrices are the crate `matrices`, its weights `weights`.
 pub mod channels;
-pub mod matrices;
 pub mod ranges;

@@ -6,10 +6,10 @@ use Prim.Native.Nat.{_*_, _≤_}
 use native.Mathlib.Omega.{arith}
 use lib.ListN.{length}
 use Rattle.rules.specs.Channels.{count}
-use Rattle.gauged_rows.specs.declared.chroma.Ruler.{Ruler}
+use Rattle.gauges.proofs.Prefixes.{passed-none}
+use Rattle.gauged_chroma.specs.declared.Ruler.{Ruler}
 use Rattle.formed_rows.proofs.Formed.{all-formed-iff}
-use Rattle.gauged_rows.proofs.Prefixes.{passed-none}
-use Rattle.gauged_rows.proofs.Pairs.{whole-small}
+use Rattle.gauged_chroma.proofs.Pairs.{whole-small}
 use Rattle.row_check.proofs.Runs.{row-right}
 use Rattle.row_check.proofs.passed.chroma_passed.Statement.{statement}
 use Rattle.row_check.proofs.passed.chroma_passed.Tie as tie

@@ -12,7 +12,7 @@ use Rattle.frames.specs.Rows.{rowPixel}
 use Rattle.check_limits.proofs.Limits.{luma-modest}
 use Rattle.gauges.specs.Gauges.{sharesOf, gaugeOf, lumaNear}
 use Rattle.formed_rows.proofs.Formed.{all-formed-iff}
-use Rattle.gauged_rows.proofs.Prefixes.{passed-none, passed-as}
+use Rattle.gauges.proofs.Prefixes.{passed-none, passed-as}
 use Rattle.gauges.proofs.Gauged.{luma-true}
 use Rattle.row_check.proofs.passed.luma_passed.Statement.{statement}
 use Rattle.row_check.proofs.passed.luma_passed.Tie as tie
