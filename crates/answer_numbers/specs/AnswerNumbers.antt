@@ -3,18 +3,22 @@ use Prim.Native.Nat.{ℕ}
 use lib.IntN.{pos}
 use Rattle.rules.specs.declared.Place.{Place}
 use Rattle.rules.specs.declared.Refusal.{Refusal}
-use Rattle.rules.specs.declared.Refusal.the-variants.{Depth, Precision, CustomPair, WeightOff, CodeOutside, CustomUnchecked, Size, Stride, Length, TooLarge}
+use Rattle.rules.specs.declared.Refusal.the-variants.{Depth, Precision, CustomPair, WeightOff, CodeOutside, CustomUnchecked, Size, Stride, Length, TooLarge, Count}
 use Rattle.rules.specs.declared.SourcePlace.{SourcePlace}
 use Rattle.rules.specs.declared.Weights.{Weights}
 use Rattle.rules.specs.declared.Settled.{Settled}
 use Rattle.rules.specs.declared.Settled.the-variants as settled
 use Rattle.rules.specs.declared.Converted.{Converted}
 use Rattle.rules.specs.declared.Converted.the-variants as converted
+use Rattle.rules.specs.declared.Verdict.{Verdict}
+use Rattle.rules.specs.declared.Verdict.the-variants.{Passes, Refuses}
+use Rattle.rules.specs.declared.Ringed.{Ringed}
 use Rattle.rules.specs.declared.Checked.{Checked}
 use Rattle.rules.specs.declared.Checked.the-variants as checked
 use Rattle.rules.specs.Refusals.{numberOf}
 use Rattle.answer_numbers.specs.declared.SettledNumbers.{SettledNumbers}
 use Rattle.answer_numbers.specs.declared.ConvertedNumbers.{ConvertedNumbers}
+use Rattle.answer_numbers.specs.declared.RingNumbers.{RingNumbers}
 use Rattle.answer_numbers.specs.declared.CheckedNumbers.{CheckedNumbers}
 
 -- on a refusal the nine weights are 0
@@ -58,8 +62,9 @@ sampleOf Size = noSample
 sampleOf Stride = noSample
 sampleOf Length = noSample
 sampleOf (TooLarge p) = p
+sampleOf Count = noSample
 
--- ---- convert and check
+-- ---- convert, a ring of frames, and check
 
 abbrev pub refusedFor : ℕ → SourcePlace → ConvertedNumbers
 refusedFor refusal sample = record { refusal = refusal; sample = sample }
@@ -67,6 +72,16 @@ refusedFor refusal sample = record { refusal = refusal; sample = sample }
 abbrev pub convertedNumbers : Converted → ConvertedNumbers
 convertedNumbers converted.Done = refusedFor 0 noSample
 convertedNumbers (converted.Refused r) = refusedFor (numberOf r) (sampleOf r)
+
+abbrev pub ringTold : ℕ → ℕ → SourcePlace → RingNumbers
+ringTold written refusal sample = record { written = written; refusal = refusal; sample = sample }
+
+abbrev pub ringEnded : ℕ → Verdict → RingNumbers
+ringEnded written Passes = ringTold written 0 noSample
+ringEnded written (Refuses r) = ringTold written (numberOf r) (sampleOf r)
+
+abbrev pub ringNumbers : Ringed → RingNumbers
+ringNumbers r = ringEnded (r .written) (r .ended)
 
 abbrev pub told : ℕ → ℕ → Place → SourcePlace → CheckedNumbers
 told refusal wrong place sample = record { refusal = refusal; wrong = wrong; place = place; sample = sample }

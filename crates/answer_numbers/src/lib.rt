@@ -1,12 +1,14 @@
 // The answers of the services as numbers, for callers from other languages. What does not apply is 0.
 ghost use mathlib.Core.Path.{_≡_};
-ghost use Rattle.answer_numbers.specs.AnswerNumbers.{weightless, settledNumbers, noSample, sampleOf, refusedFor, convertedNumbers, noPlace, told, checkedNumbers};
+ghost use Rattle.answer_numbers.specs.AnswerNumbers.{weightless, settledNumbers, noSample, sampleOf, refusedFor, convertedNumbers, ringTold, ringNumbers, noPlace, told, checkedNumbers};
 use rules::Checked;
 use rules::Converted;
 use rules::Place;
 use rules::Refusal;
+use rules::Ringed;
 use rules::Settled;
 use rules::SourcePlace;
+use rules::Verdict;
 use rules::Weights;
 
 // Refusal 0 is success; the nine weights are 0 on a refusal.
@@ -19,6 +21,14 @@ pub struct SettledNumbers {
 // Refusal 0 is done; refusal 10 gives the sample that is too large.
 #[repr(C)]
 pub struct ConvertedNumbers {
+    pub refusal: u32,
+    pub sample: SourcePlace,
+}
+
+// Refusal 0 means that every frame was written; refusal 10 gives the sample that is too large, of the frame after those written.
+#[repr(C)]
+pub struct RingNumbers {
+    pub written: u32,
     pub refusal: u32,
     pub sample: SourcePlace,
 }
@@ -86,6 +96,7 @@ fn sample_of(r: Refusal) -> SourcePlace
         Refusal::Stride => no_sample(),
         Refusal::Length => no_sample(),
         Refusal::TooLarge(p) => p,
+        Refusal::Count => no_sample(),
     }
 }
 
@@ -101,6 +112,26 @@ pub fn converted_numbers(answer: Converted) -> ConvertedNumbers
     match answer {
         Converted::Done => refused_for(0, no_sample()),
         Converted::Refused(r) => refused_for(r.number(), sample_of(r)),
+    }
+}
+
+pub fn ring_told(written: u32, refusal: u32, sample: SourcePlace) -> RingNumbers
+    ensures { λ r. ⌜ r ≡ ringTold written refusal sample ⌝ }
+{
+    RingNumbers {
+        written,
+        refusal,
+        sample,
+    }
+}
+
+pub fn ring_numbers(answer: Ringed) -> RingNumbers
+    ensures { λ r. ⌜ r ≡ ringNumbers answer ⌝ }
+{
+    let ended = answer.ended;
+    match ended {
+        Verdict::Passes => ring_told(answer.written, 0, no_sample()),
+        Verdict::Refuses(r) => ring_told(answer.written, r.number(), sample_of(r)),
     }
 }
 

@@ -3,16 +3,18 @@ use Prim.Native.Nat.{ℕ}
 use mathlib.Core.Path.{_≡_}
 use mathlib.Core.List.{List}
 use Rattle.rules.specs.declared.Frame.{Frame}
-use Rattle.rules.specs.Answers.{Answer, settledAnswer, convertedAnswer, checkedAnswer}
+use Rattle.rules.specs.Answers.{settledAnswer, convertedAnswer, ringedAnswer, checkedAnswer}
 use Rattle.rules.specs.Settle.{settle}
 use Rattle.rules.specs.Convert.{convert, lumaAfter, chromaAfter}
+use Rattle.rules.specs.Ring.{convertRing}
 use Rattle.rules.specs.Check.{check}
 use Rattle.numbers.specs.declared.Meant.{Meant}
 use Rattle.numbers.specs.declared.Meant.the-variants.{Nothing, These}
 use Rattle.answer_numbers.specs.declared.SettledNumbers.{SettledNumbers}
 use Rattle.answer_numbers.specs.declared.ConvertedNumbers.{ConvertedNumbers}
+use Rattle.answer_numbers.specs.declared.RingNumbers.{RingNumbers}
 use Rattle.answer_numbers.specs.declared.CheckedNumbers.{CheckedNumbers}
-use Rattle.answer_numbers.specs.AnswerNumbers.{weightless, settledNumbers, noSample, refusedFor, convertedNumbers, noPlace, told, checkedNumbers}
+use Rattle.answer_numbers.specs.AnswerNumbers.{weightless, settledNumbers, noSample, refusedFor, convertedNumbers, ringTold, ringNumbers, noPlace, told, checkedNumbers}
 
 -- the number of the interface; it changes whenever a function's arguments or the layout of a record do
 abbrev pub version : ℕ
@@ -23,7 +25,7 @@ abbrev pub unnamed : ℕ
 unnamed = 18
 
 -- the case of an enumeration that stands for a service's answer, as numbers; one case does
-pub record Told {A R : Type 0} (paper : A → Answer) (numbers : A → R) (answer : Answer) (r : R) : Type 0 where
+pub record Told {A P R : Type 0} (paper : A → P) (numbers : A → R) (answer : P) (r : R) : Type 0 where
   pub case : A
   pub stands : paper case ≡ answer
   pub told : r ≡ numbers case
@@ -47,6 +49,20 @@ lumaCall (These s) f source luma chroma = lumaAfter s f source luma chroma
 abbrev pub chromaCall : Meant → Frame → List ℕ → List ℕ → List ℕ → List ℕ
 chromaCall Nothing f source luma chroma = chroma
 chromaCall (These s) f source luma chroma = chromaAfter s f source luma chroma
+
+-- ---- a ring of frames
+
+abbrev pub RingCall : Meant → Frame → ℕ → List ℕ → List ℕ → List ℕ → RingNumbers → Type 0
+RingCall Nothing f count source luma chroma r = r ≡ ringTold 0 unnamed noSample
+RingCall (These s) f count source luma chroma r = Told ringedAnswer ringNumbers (convertRing s f count source luma chroma .answer) r
+
+abbrev pub lumaRingCall : Meant → Frame → ℕ → List ℕ → List ℕ → List ℕ → List ℕ
+lumaRingCall Nothing f count source luma chroma = luma
+lumaRingCall (These s) f count source luma chroma = convertRing s f count source luma chroma .luma
+
+abbrev pub chromaRingCall : Meant → Frame → ℕ → List ℕ → List ℕ → List ℕ → List ℕ
+chromaRingCall Nothing f count source luma chroma = chroma
+chromaRingCall (These s) f count source luma chroma = convertRing s f count source luma chroma .chroma
 
 -- ---- check
 

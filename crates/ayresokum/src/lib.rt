@@ -1,9 +1,10 @@
 // The exported functions: numbers in place of enumerations, structs by value, slices as a pointer and a length.
 ghost use mathlib.Core.Path.{_≡_};
 ghost use Rattle.numbers.specs.Numbers.{settingsOf};
-ghost use Rattle.ayresokum.specs.Calls.{version, SettleCall, ConvertCall, lumaCall, chromaCall, CheckCall};
+ghost use Rattle.ayresokum.specs.Calls.{version, SettleCall, ConvertCall, lumaCall, chromaCall, RingCall, lumaRingCall, chromaRingCall, CheckCall};
 use answer_numbers::CheckedNumbers;
 use answer_numbers::ConvertedNumbers;
+use answer_numbers::RingNumbers;
 use answer_numbers::SettledNumbers;
 use numbers::Meant;
 use numbers::SettingsNumbers;
@@ -46,6 +47,33 @@ pub extern "C" fn ayresokum_convert(
         Meant::These(s) => answer_numbers::converted_numbers(rgb_to_nv_p16::convert(
             s,
             frame,
+            source,
+            luma,
+            chroma,
+        )),
+    }
+}
+
+#[no_mangle]
+pub extern "C" fn ayresokum_convert_ring(
+    settings: SettingsNumbers,
+    frame: Frame,
+    count: usize,
+    source: &[u16],
+    luma: &mut [u16],
+    chroma: &mut [u16],
+) -> RingNumbers
+    ensures answer { λ r. ⌜ RingCall (settingsOf settings) frame count (now (source .entry)) (now (luma .entry)) (now (chroma .entry)) r ⌝ }
+    ensures luma { λ r. ⌜ now (luma .exit) ≡ lumaRingCall (settingsOf settings) frame count (now (source .entry)) (now (luma .entry)) (now (chroma .entry)) ⌝ }
+    ensures chroma { λ r. ⌜ now (chroma .exit) ≡ chromaRingCall (settingsOf settings) frame count (now (source .entry)) (now (luma .entry)) (now (chroma .entry)) ⌝ }
+{
+    let meant = numbers::settings_of(settings);
+    match meant {
+        Meant::Nothing => answer_numbers::ring_told(0, 18, answer_numbers::no_sample()),
+        Meant::These(s) => answer_numbers::ring_numbers(ring::convert_ring(
+            s,
+            frame,
+            count,
             source,
             luma,
             chroma,

@@ -43,7 +43,7 @@ pub fn frame_verdict(s: Settings, f: Frame, source: &[u16], luma: usize, chroma:
     if layout_refusals::stride_off(s, f) {
         return Verdict::Refuses(Refusal::Stride);
     }
-    if layout_refusals::length_off(s, f, source.len(), luma, chroma) {
+    if layout_refusals::length_off(s, f, 1, source.len(), luma, chroma) {
         return Verdict::Refuses(Refusal::Length);
     }
     let channels = s.channels;

@@ -50,6 +50,6 @@ pub same-lines : (s : Settings) (f : Frame) (a b : List ℕ) (luma chroma : ℕ)
 same-lines s f a b luma chroma h =
     λ i. sizeLine f ∷
     strideLine s f ∷
-    lengthLine s f (h .long i) luma chroma ∷
+    lengthLine s f 1 (h .long i) luma chroma ∷
     placeLine (same-scan f _ _ (pictures (s .channels) f a b h) (most (s .depth)) i) ∷
     []

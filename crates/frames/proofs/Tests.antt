@@ -12,13 +12,13 @@ use Rattle.rules.specs.declared.Settings.{Settings}
 use Rattle.rules.specs.declared.Frame.{Frame}
 use Rattle.rules.specs.Ranges.{most}
 use Rattle.rules.specs.Channels.{Picture, count}
-use Rattle.rules.specs.Blocks.{chromaWidth, chromaHeight}
+use Rattle.rules.specs.Blocks.{chromaWidth}
 use Rattle.rules.specs.Refusals.{passes, lineOf, outside, first}
 use Rattle.rules.specs.declared.Verdict.{Verdict}
 use Rattle.rules.specs.declared.Verdict.the-variants.{Passes, Refuses}
 use Rattle.rules.specs.declared.Search.{Search}
 use Rattle.rules.specs.declared.Search.the-variants.{Nothing, At}
-use Rattle.rules.specs.Frames.{sizeOff, strideOff, lengthOff, shown, channelOf, colourSample, lowTest, tooLarge, placeLine, frameLines}
+use Rattle.rules.specs.Frames.{sizeOff, strideOff, sourceSize, lumaSize, chromaSize, lengthOff, shown, channelOf, colourSample, lowTest, tooLarge, placeLine, frameLines}
 use Rattle.rule_laws.proofs.Refusals.{bounds, passed, passed-by}
 use Rattle.plane_laws.proofs.Tests.{neither}
 use Rattle.plane_laws.proofs.Tables.{step-le}
@@ -48,16 +48,16 @@ strided s f h =
     record { source = a .0; sourceMost = a .1; luma = b .0; lumaMost = b .1; chroma = c .0; chromaMost = c .1 }
 
 -- rows that fill a buffer lie in it
-filled : {long stride wide rows : ℕ} → 0 < stride → wide ≤ stride → not (eqb long (rows * stride)) ≡ false → Rows long stride wide rows
+filled : {long stride wide rows : ℕ} → 0 < stride → wide ≤ stride → not (eqb long (1 * (rows * stride))) ≡ false → Rows long stride wide rows
 filled {long} {stride} {wide} {rows} some covers h =
-    let e = eqb-true long (rows * stride) (not-false (eqb long (rows * stride)) h) in
+    let e = eqb-true long (1 * (rows * stride)) (not-false (eqb long (1 * (rows * stride))) h) in
     record { some = some; covers = covers; fits = λ row b. let k = step-le row rows stride long b (omega arith) in omega arith }
 
-pub laid : (s : Settings) (f : Frame) (source luma chroma : ℕ) → Sized f → Strided s f → lengthOff s f source luma chroma ≡ false → Laid s f source luma chroma
+pub laid : (s : Settings) (f : Frame) (source luma chroma : ℕ) → Sized f → Strided s f → lengthOff s f 1 source luma chroma ≡ false → Laid s f source luma chroma
 laid s f source luma chroma a b h =
-    let x = not (eqb source (f .height * f .«source_stride»)) in
-    let y = not (eqb luma (f .height * f .«luma_stride»)) in
-    let z = not (eqb chroma (chromaHeight (s .subsampling) (f .height) * f .«chroma_stride»)) in
+    let x = not (eqb source (1 * sourceSize f)) in
+    let y = not (eqb luma (1 * lumaSize f)) in
+    let z = not (eqb chroma (1 * chromaSize s f)) in
     let k = neither x (y || z) h in
     let l = neither y z (k .1) in
     let g : 1 ≤ count (s .channels) = omega (arith, places (s .channels) .least) in

@@ -1,5 +1,6 @@
-// Refusals 7 to 9: the size, the strides and the lengths, a function for each. None of the sums and products can wrap.
+// Refusals 7, 8, 11 and 9: the size, the strides, the count of frames and the lengths, a function for each. No sum or product can wrap.
 ghost use mathlib.Core.Path.{_≡_};
+ghost use Prim.Native.Nat.{_≤_};
 ghost use Rattle.rules.specs.Refusals.{outside};
 ghost use Rattle.rules.specs.Frames.{sizeOff, strideOff, lengthOff};
 ghost use Rattle.frames.specs.Tests.{Sized, Strided};
@@ -48,17 +49,31 @@ pub fn stride_off(s: Settings, f: Frame) -> bool
     )
 }
 
-// Refusal 9.
-pub fn length_off(s: Settings, f: Frame, source: usize, luma: usize, chroma: usize) -> bool
-    requires { ⌜ (Sized f) × (Strided s f) ⌝ }
-    ensures { λ r. ⌜ r ≡ lengthOff s f source luma chroma ⌝ }
+// Refusal 11.
+pub fn count_off(count: usize) -> bool
+    ensures { λ r. ⌜ r ≡ outside 1 64 count ⌝ }
 {
-    let subsampling = s.subsampling;
-    if source != f.height * f.source_stride {
+    outside(1, 64, count)
+}
+
+// Refusal 9, of so many frames laid end to end.
+pub fn length_off(
+    s: Settings,
+    f: Frame,
+    count: usize,
+    source: usize,
+    luma: usize,
+    chroma: usize,
+) -> bool
+    requires { ⌜ (Sized f) × (Strided s f) ⌝ }
+    requires { ⌜ count ≤ 64 ⌝ }
+    ensures { λ r. ⌜ r ≡ lengthOff s f count source luma chroma ⌝ }
+{
+    if source != count * frame_sizes::source_size(s, f) {
         return true;
     }
-    if luma != f.height * f.luma_stride {
+    if luma != count * frame_sizes::luma_size(s, f) {
         return true;
     }
-    chroma != blocks::chroma_height(subsampling, f.height) * f.chroma_stride
+    chroma != count * frame_sizes::chroma_size(s, f)
 }

@@ -20,7 +20,8 @@ use Rattle.rules.specs.Planes.{tabulate}
 use Rattle.rules.specs.Convert.{wordOf, lumaWord, chromaWord}
 use Rattle.tolerance_laws.proofs.Samples.{luma-word-is}
 use Rattle.plane_laws.proofs.Tables.{tabulate-ext}
-use Rattle.plane_laws.proofs.Planes.{put, length-plane, plane-row}
+use Rattle.plane_laws.specs.Parts.{put}
+use Rattle.plane_laws.proofs.Planes.{length-plane, plane-row}
 use Rattle.blocks.specs.Tiles.{paired, topOf, twoAt, secondOf}
 use Rattle.blocks.proofs.Tiles.{top-below, two-below}
 use Rattle.frames.specs.Rows.{rowPixel, Shows, Rows}

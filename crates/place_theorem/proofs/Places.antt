@@ -45,7 +45,7 @@ module _ (s : Settings) (v : List ℤ) where
   in-frame f source luma chroma e =
       let size = reached 7 (sizeOff f) _ 10 v refl e in
       let stride = reached 8 (strideOff s f) _ 10 v refl (size .1) in
-      let long = reached 9 (lengthOff s f (length source) luma chroma) _ 10 v refl (stride .1) in
+      let long = reached 9 (lengthOff s f 1 (length source) luma chroma) _ 10 v refl (stride .1) in
       sym (alone (tooLargeLine s f source)) ∙ long .1
 
   module _ (f : Frame) (source luma chroma : List ℕ) where

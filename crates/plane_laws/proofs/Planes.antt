@@ -11,13 +11,11 @@ use lib.Dec.{ltb}
 use lib.ListN.{length, getD, take, drop, length-append, length-drop, List·getD-append}
 use lib.Seq.{length-take-le, getD-append-add, getD-take, getD-drop}
 use Rattle.rules.specs.Planes.{tabulate, element, written}
+use Rattle.plane_laws.specs.Parts.{put}
 use Rattle.plane_laws.proofs.Tests.{lt-or-le}
 use Rattle.plane_laws.proofs.Tables.{length-tabulate, getD-tabulate, tabulate-ext, is-tabulate}
 
 -- ---- a part in the middle of P is replaced by one as long, as a lent part comes back
-abbrev pub put : List ℕ → ℕ → List ℕ → ℕ → List ℕ
-put P a row w = take a P ++ (row ++ drop w (drop a P))
-
 module _ (P : List ℕ) (a : ℕ) (row : List ℕ) (w : ℕ) (hw : length row ≡ w) (fits : a + w ≤ length P) where
   at : length (take a P) ≡ a
   at = length-take-le a P (omega arith)

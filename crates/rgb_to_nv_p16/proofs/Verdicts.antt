@@ -51,9 +51,15 @@ module _ (s : Settings) (f : Frame) (source luma chroma : List ℕ) where
   refused-settings n v e = by-line (refuses n v) (refused-before (settleLines s) (frameLines s f source (length luma) (length chroma)) (refused-refuses s n v e))
 
   -- settle hands out weights: the frame's lines decide
-  pub weighed : (w : Weights) → given (weightValues w) ≡ settle s → {a : Answer} {l c : List ℕ} → a ≡ answer framed (given []) → l ≡ kept framed (lumaBy w) luma → c ≡ kept framed (chromaBy w) chroma
-      → (a ≡ convert s f source luma chroma) × ((l ≡ lumaAfter s f source luma chroma) × (c ≡ chromaAfter s f source luma chroma))
+  pub weighed : (w : Weights) → given (weightValues w) ≡ settle s → {x : Line} {l c : List ℕ} → x ≡ framed → l ≡ kept framed (lumaBy w) luma → c ≡ kept framed (chromaBy w) chroma
+      → (x ≡ verdict s f source luma chroma) × ((l ≡ lumaAfter s f source luma chroma) × (c ≡ chromaAfter s f source luma chroma))
   weighed w e p q r =
       let o = weighed-passes s w e in
-      let g = by-line framed (passed-on (settleLines s) (frameLines s f source (length luma) (length chroma)) (o .0)) in
-      (p ∙ g .0, (q ∙ ap (λ (x : Weights). kept framed (lumaBy x) luma) (sym (o .1)) ∙ g .1 .0, r ∙ ap (λ (x : Weights). kept framed (chromaBy x) chroma) (sym (o .1)) ∙ g .1 .1))
+      let h = passed-on (settleLines s) (frameLines s f source (length luma) (length chroma)) (o .0) in
+      let g = by-line framed h in
+      (p ∙ sym h, (q ∙ ap (λ (x : Weights). kept framed (lumaBy x) luma) (sym (o .1)) ∙ g .1 .0, r ∙ ap (λ (x : Weights). kept framed (chromaBy x) chroma) (sym (o .1)) ∙ g .1 .1))
+
+  -- the answer that a verdict stands for
+  pub answered : {a : Answer} {l : Line} → a ≡ answer l (given []) → l ≡ verdict s f source luma chroma → a ≡ convert s f source luma chroma
+  unfolding convert
+  answered p e = p ∙ ap (λ (k : Line). answer k (given [])) e

@@ -4,9 +4,9 @@ ghost use mathlib.Core.List.{[]};
 ghost use lib.ListN.{length};
 ghost use Rattle.rules.specs.Refusals.{lineOf};
 ghost use Rattle.rules.specs.Answers.{given, answer, convertedAnswer};
-ghost use Rattle.rules.specs.Frames.{frameLine};
-ghost use Rattle.rules.specs.Convert.{lumaLeft, chromaLeft, convert, lumaAfter, chromaAfter};
+ghost use Rattle.rules.specs.Convert.{lumaLeft, chromaLeft, verdict, convert, lumaAfter, chromaAfter};
 ghost use Rattle.rule_laws.specs.Usable.{Usable};
+ghost use Rattle.settle.specs.Promised.{HandedOut};
 ghost use Rattle.frames.specs.Tests.{Clear};
 use rules::Converted;
 use rules::Frame;
@@ -46,23 +46,23 @@ fn write_planes(
     }
 }
 
-// Converts a frame by settled weights, or refuses it.
-fn convert_settled(
+// Converts a frame by the weights of its settings, or refuses it.
+pub fn convert_settled(
     s: Settings,
     w: Weights,
     f: Frame,
     source: &[u16],
     luma: &mut [u16],
     chroma: &mut [u16],
-) -> Converted
-    requires { ⌜ Usable s w ⌝ }
-    ensures { λ r. ⌜ convertedAnswer r ≡ answer (frameLine s f (now (source .entry)) (now (luma .entry)) (now (chroma .entry))) (given []) ⌝ }
-    ensures { λ r. ⌜ now (luma .exit) ≡ lumaLeft (frameLine s f (now (source .entry)) (now (luma .entry)) (now (chroma .entry))) s w f (now (source .entry)) (now (luma .entry)) ⌝ }
-    ensures { λ r. ⌜ now (chroma .exit) ≡ chromaLeft (frameLine s f (now (source .entry)) (now (luma .entry)) (now (chroma .entry))) s w f (now (source .entry)) (now (chroma .entry)) ⌝ }
+) -> Verdict
+    requires { ⌜ HandedOut s w ⌝ }
+    ensures verdict { λ r. ⌜ lineOf r ≡ verdict s f (now (source .entry)) (now (luma .entry)) (now (chroma .entry)) ⌝ }
+    ensures luma { λ r. ⌜ now (luma .exit) ≡ lumaAfter s f (now (source .entry)) (now (luma .entry)) (now (chroma .entry)) ⌝ }
+    ensures chroma { λ r. ⌜ now (chroma .exit) ≡ chromaAfter s f (now (source .entry)) (now (luma .entry)) (now (chroma .entry)) ⌝ }
 {
     let verdict = frame_refusals::frame_verdict(s, f, source, luma.len(), chroma.len());
     write_planes(verdict, s, w, f, source, luma, chroma);
-    answer_of(verdict)
+    verdict
 }
 
 // Settles the settings, then converts the frame: the first refusal that applies, or both planes written.
@@ -80,6 +80,6 @@ pub fn convert(
     let settled = settle(s);
     match settled {
         Settled::Refused(r) => Converted::Refused(r),
-        Settled::Weighed(w) => convert_settled(s, w, f, source, luma, chroma),
+        Settled::Weighed(w) => answer_of(convert_settled(s, w, f, source, luma, chroma)),
     }
 }

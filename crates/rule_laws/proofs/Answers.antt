@@ -6,7 +6,7 @@ use native.Mathlib.Omega.{arith}
 use lib.IntN.{ℤ, pos, natAbs}
 use lib.ListN.{getD}
 use Rattle.rules.specs.declared.Refusal.{Refusal}
-use Rattle.rules.specs.declared.Refusal.the-variants.{Depth, Precision, CustomPair, WeightOff, CodeOutside, CustomUnchecked, Size, Stride, Length, TooLarge}
+use Rattle.rules.specs.declared.Refusal.the-variants.{Depth, Precision, CustomPair, WeightOff, CodeOutside, CustomUnchecked, Size, Stride, Length, TooLarge, Count}
 use Rattle.rules.specs.declared.SourcePlace.{SourcePlace}
 use Rattle.rules.specs.declared.Weights.{Weights}
 use Rattle.rules.specs.declared.Place.{Place}
@@ -14,10 +14,13 @@ use Rattle.rules.specs.declared.Settled.{Settled}
 use Rattle.rules.specs.declared.Settled.the-variants as settled
 use Rattle.rules.specs.declared.Converted.{Converted}
 use Rattle.rules.specs.declared.Converted.the-variants as converted
+use Rattle.rules.specs.declared.Verdict.{Verdict}
+use Rattle.rules.specs.declared.Verdict.the-variants.{Passes, Refuses}
+use Rattle.rules.specs.declared.Ringed.{Ringed}
 use Rattle.rules.specs.declared.Checked.{Checked}
 use Rattle.rules.specs.declared.Checked.the-variants as checked
-use Rattle.rules.specs.Refusals.{numberOf, valuesOf, Line, passes, refuses}
-use Rattle.rules.specs.Answers.{Answer, given, refused, answer, refusal, weightValues, settledAnswer, convertedAnswer, placeValues, checkedAnswer}
+use Rattle.rules.specs.Refusals.{numberOf, valuesOf, Line, passes, refuses, lineOf}
+use Rattle.rules.specs.Answers.{Answer, given, refused, answer, refusal, weightValues, settledAnswer, convertedAnswer, RingAnswer, ringedAnswer, placeValues, checkedAnswer}
 
 -- ---- a refusal by its number and values
 
@@ -26,7 +29,7 @@ sourcePlaceIn v = record { row = natAbs (getD v 0 (pos 0)); pixel = natAbs (getD
 
 -- in the order of their numbers, from 1 on
 refusals : List ℤ → List Refusal
-refusals v = Depth ∷ Precision ∷ CustomPair ∷ WeightOff ∷ CodeOutside ∷ CustomUnchecked ∷ Size ∷ Stride ∷ Length ∷ TooLarge (sourcePlaceIn v) ∷ []
+refusals v = Depth ∷ Precision ∷ CustomPair ∷ WeightOff ∷ CodeOutside ∷ CustomUnchecked ∷ Size ∷ Stride ∷ Length ∷ TooLarge (sourcePlaceIn v) ∷ Count ∷ []
 
 numbered : ℕ → List ℤ → Refusal
 numbered n v = getD (refusals v) (n - 1) Depth
@@ -43,6 +46,7 @@ numbered-back Size = refl
 numbered-back Stride = refl
 numbered-back Length = refl
 numbered-back (TooLarge p) = refl
+numbered-back Count = refl
 
 abbrev numberIn : Answer → ℕ
 numberIn (given v) = 0
@@ -97,6 +101,18 @@ one-converted converted.Done converted.Done e = refl
 one-converted (converted.Refused q) (converted.Refused r) e = ap converted.Refused (same-refusal q r e)
 one-converted converted.Done (converted.Refused r) e = absurd (let z : _≡_ {A = ℕ} 0 1 = cc in omega arith)
 one-converted (converted.Refused q) converted.Done e = absurd (let z : _≡_ {A = ℕ} 0 1 = cc in omega arith)
+
+one-verdict : (a b : Verdict) → lineOf a ≡ lineOf b → a ≡ b
+one-verdict Passes Passes e = refl
+one-verdict (Refuses q) (Refuses r) e = ap Refuses (same-refusal q r (ap (λ (l : Line). answer l (given [])) e))
+one-verdict Passes (Refuses r) e = absurd (let z : _≡_ {A = ℕ} 0 1 = cc in omega arith)
+one-verdict (Refuses q) Passes e = absurd (let z : _≡_ {A = ℕ} 0 1 = cc in omega arith)
+
+pub one-ringed : (a b : Ringed) → ringedAnswer a ≡ ringedAnswer b → a ≡ b
+one-ringed a b e =
+    let w : a .written ≡ b .written = ap (λ (r : RingAnswer). r .written) e in
+    let v = one-verdict (a .ended) (b .ended) (ap (λ (r : RingAnswer). r .ended) e) in
+    λ i. record { written = w i; ended = v i }
 
 pub one-checked : (a b : Checked) → checkedAnswer a ≡ checkedAnswer b → a ≡ b
 one-checked checked.Accepted checked.Accepted e = refl

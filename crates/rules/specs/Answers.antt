@@ -8,9 +8,10 @@ use Rattle.rules.specs.declared.Settled.{Settled}
 use Rattle.rules.specs.declared.Settled.the-variants as settled
 use Rattle.rules.specs.declared.Converted.{Converted}
 use Rattle.rules.specs.declared.Converted.the-variants as converted
+use Rattle.rules.specs.declared.Ringed.{Ringed}
 use Rattle.rules.specs.declared.Checked.{Checked}
 use Rattle.rules.specs.declared.Checked.the-variants as checked
-use Rattle.rules.specs.Refusals.{numberOf, valuesOf, Line, passes, refuses}
+use Rattle.rules.specs.Refusals.{numberOf, valuesOf, Line, passes, refuses, lineOf}
 
 -- an answer in the paper's terms: the values that a service gives, or a refusal's number and the values that come with it
 pub data Answer : Type 0 where
@@ -40,6 +41,14 @@ settledAnswer (settled.Refused r) = refusal r
 abbrev pub convertedAnswer : Converted → Answer
 convertedAnswer converted.Done = given []
 convertedAnswer (converted.Refused r) = refusal r
+
+-- 02: "the answer says how many were written and the refusal that ended it", if one did
+pub record RingAnswer : Type 0 where
+  pub written : ℕ
+  pub ended : Line
+
+abbrev pub ringedAnswer : Ringed → RingAnswer
+ringedAnswer r = record { written = r .written; ended = lineOf (r .ended) }
 
 -- "naming plane, row and element in the row"
 abbrev pub placeValues : ℕ → ℕ → ℕ → List ℤ

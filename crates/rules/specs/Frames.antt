@@ -25,11 +25,20 @@ strideOff s f =
     outside (f .width * count (s .channels)) 65536 (f .«source_stride»)
     || (outside (f .width) 65536 (f .«luma_stride») || outside (chromaWidth (s .subsampling) (f .width)) 65536 (f .«chroma_stride»))
 
--- 9: "a buffer's length is not exactly stride × rows"
-abbrev pub lengthOff : Settings → Frame → ℕ → ℕ → ℕ → Bool
-lengthOff s f source luma chroma =
-    not (eqb source (f .height * f .«source_stride»))
-    || (not (eqb luma (f .height * f .«luma_stride»)) || not (eqb chroma (chromaHeight (s .subsampling) (f .height) * f .«chroma_stride»)))
+-- "stride × rows": the elements of one frame in the source and in each plane
+abbrev pub sourceSize : Frame → ℕ
+sourceSize f = f .height * f .«source_stride»
+
+abbrev pub lumaSize : Frame → ℕ
+lumaSize f = f .height * f .«luma_stride»
+
+abbrev pub chromaSize : Settings → Frame → ℕ
+chromaSize s f = chromaHeight (s .subsampling) (f .height) * f .«chroma_stride»
+
+-- 9: "a buffer's length is not exactly stride × rows"; 02, of many frames: "count × stride × rows"
+abbrev pub lengthOff : Settings → Frame → ℕ → ℕ → ℕ → ℕ → Bool
+lengthOff s f count source luma chroma =
+    not (eqb source (count * sourceSize f)) || (not (eqb luma (count * lumaSize f)) || not (eqb chroma (count * chromaSize s f)))
 
 -- the picture that the source of a frame shows
 abbrev pub shown : Settings → Frame → List ℕ → Picture
@@ -62,9 +71,9 @@ sizeLine f = line 7 (sizeOff f)
 abbrev pub strideLine : Settings → Frame → Line
 strideLine s f = line 8 (strideOff s f)
 
--- by the lengths of the source and of the two planes
-abbrev pub lengthLine : Settings → Frame → ℕ → ℕ → ℕ → Line
-lengthLine s f source luma chroma = line 9 (lengthOff s f source luma chroma)
+-- by the number of frames, and the lengths of the source and of the two planes
+abbrev pub lengthLine : Settings → Frame → ℕ → ℕ → ℕ → ℕ → Line
+lengthLine s f count source luma chroma = line 9 (lengthOff s f count source luma chroma)
 
 -- 02: "Refusal 10 is to carry row, pixel and channel (red before green before blue) of the first too-large visible sample"
 abbrev pub placeLine : Search → Line
@@ -77,7 +86,7 @@ tooLargeLine s f source = placeLine (tooLarge (most (s .depth)) f (shown s f sou
 -- what convert and check ask of a frame, in order
 abbrev pub frameLines : Settings → Frame → List ℕ → ℕ → ℕ → List Line
 frameLines s f source luma chroma =
-    sizeLine f ∷ strideLine s f ∷ lengthLine s f (length source) luma chroma ∷ tooLargeLine s f source ∷ []
+    sizeLine f ∷ strideLine s f ∷ lengthLine s f 1 (length source) luma chroma ∷ tooLargeLine s f source ∷ []
 
 -- what these lines come to, for a source and two planes
 abbrev pub frameLine : Settings → Frame → List ℕ → List ℕ → List ℕ → Line

@@ -14,5 +14,6 @@ pub mod Settle
 pub mod Fractions
 pub mod Frames
 pub mod Convert
+pub mod Ring
 pub mod Check
 pub mod Table

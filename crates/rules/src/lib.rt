@@ -183,6 +183,7 @@ pub enum Refusal {
     Stride,
     Length,
     TooLarge(SourcePlace),
+    Count,
 }
 
 impl Refusal {
@@ -201,6 +202,7 @@ impl Refusal {
             Refusal::Stride => 8,
             Refusal::Length => 9,
             Refusal::TooLarge(_) => 10,
+            Refusal::Count => 11,
         }
     }
 }
@@ -227,6 +229,12 @@ pub enum Settled {
 pub enum Converted {
     Done,
     Refused(Refusal),
+}
+
+// What converting a ring answers: how many of its frames were written, and the refusal that ended it, if one did.
+pub struct Ringed {
+    pub written: u32,
+    pub ended: Verdict,
 }
 
 // Where a sample of a plane stands: plane 0 is luma and 1 chroma; rows and elements count from 0.

@@ -4,6 +4,7 @@ use mathlib.Core.Path.{_≡_, sym, ap, _∙_, subst⁻¹}
 use mathlib.Core.Bool.{Bool, false}
 use Prim.Native.Nat.{ℕ}
 use native.Mathlib.Omega.{arith}
+use lib.Dec.{lit≤}
 use lib.ListN.{length}
 use Rattle.rules.specs.Refusals.{first, lineOf}
 use Rattle.rules.specs.Frames.{sizeOff, strideOff, lengthOff, shown, tooLarge, placeLine, tooLargeLine, frameLines}
@@ -23,7 +24,7 @@ size c t h = sym (c .size-off .ensures) ∙ h
 stride : (c : tie.After-stride-off) (t : Bool) → c .stride-off .result ≡ t → strideOff (c .before .before .before .before .args .s) (c .before .before .before .before .args .f) ≡ t
 stride c t h = sym (c .stride-off .ensures) ∙ h
 
-long : (c : tie.After-length-off) (t : Bool) → c .length-off .result ≡ t → let v = c .before .before .before .before .before .before .args in lengthOff (v .s) (v .f) (length (v .source .now)) (v .luma) (v .chroma) ≡ t
+long : (c : tie.After-length-off) (t : Bool) → c .length-off .result ≡ t → let v = c .before .before .before .before .before .before .args in lengthOff (v .s) (v .f) 1 (length (v .source .now)) (v .luma) (v .chroma) ≡ t
 long c t h = sym (c .length-off .ensures) ∙ h
 
 large : (c : tie.After-place-verdict) → let v = c .before .before .before .before .before .before .before .before .before .before .args in lineOf (c .place-verdict .result) ≡ tooLargeLine (v .s) (v .f) (v .source .now)
@@ -38,7 +39,7 @@ size-in c = size (c .before) false (c .if1 .left)
 stride-in : (c : tie.Else2) → strideOff (c .before .before .before .before .before .args .s) (c .before .before .before .before .before .args .f) ≡ false
 stride-in c = stride (c .before) false (c .if2 .left)
 
-long-in : (c : tie.Else3) → let v = c .before .before .before .before .before .before .before .args in lengthOff (v .s) (v .f) (length (v .source .now)) (v .luma) (v .chroma) ≡ false
+long-in : (c : tie.Else3) → let v = c .before .before .before .before .before .before .before .args in lengthOff (v .s) (v .f) 1 (length (v .source .now)) (v .luma) (v .chroma) ≡ false
 long-in c = long (c .before) false (c .if3 .left)
 
 size-left : (c : tie.Else1) → Sized (c .before .before .before .args .f)
@@ -63,7 +64,7 @@ returns-2 : tie.Need-returns-2
 returns-2 c = (sym (skipped _ _ _ (size-in (c .before .before)) ∙ stopped _ _ _ (stride (c .before) _ (c .if2 .taken))), tt)
 
 length-off-requires : tie.Need-length-off-requires
-length-off-requires c κs = (size-left (c .before .before), stride-left c)
+length-off-requires c κs = ((size-left (c .before .before), stride-left c), lit≤ tt)
 
 returns-3 : tie.Need-returns-3
 returns-3 c = (sym (skipped _ _ _ (size-in (c .before .before .before .before)) ∙ skipped _ _ _ (stride-in (c .before .before)) ∙ stopped _ _ _ (long (c .before) _ (c .if3 .taken))), tt)
