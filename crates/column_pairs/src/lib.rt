@@ -21,7 +21,8 @@ use rules::Settings;
 use rules::Weights;
 use rules::YuvChromaSubsampling;
 
-// A luma row and a chroma row from one source row, before the bytes are exchanged.
+// A luma row and a chroma row from one source row, before the bytes are exchanged. The odd last row of 4:2:0 is a row of blocks whose
+// second row is the first again.
 fn halved_packed(
     s: Settings,
     w: Weights,
@@ -37,7 +38,7 @@ fn halved_packed(
 {
     let subsampling = s.subsampling;
     match subsampling {
-        YuvChromaSubsampling::Yuv420 => paired_loop(s, w, width, luma, chroma, rgba),
+        YuvChromaSubsampling::Yuv420 => block_loop(s, w, width, luma, chroma, rgba, rgba),
         YuvChromaSubsampling::Yuv422 => paired_loop(s, w, width, luma, chroma, rgba),
         YuvChromaSubsampling::Yuv444 => single_loop(s, w, width, luma, chroma, rgba),
     }

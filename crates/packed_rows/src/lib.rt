@@ -49,7 +49,7 @@ pub fn single_loop(
     }
 }
 
-// 4:2:2, and the odd last row of 4:2:0: a chroma pair for two pixels.
+// 4:2:2: a chroma pair for two pixels.
 pub fn paired_loop(
     s: Settings,
     w: Weights,

@@ -2,20 +2,23 @@
 use borrow.Author.Needs.{needs}
 use mathlib.Core.Path.{ap}
 use Rattle.blocks.specs.Tiles.{paired}
+use Rattle.column_pairs.proofs.Twice.{written-once}
 use Rattle.column_pairs.proofs.halved_packed.Statement.{statement}
 use Rattle.column_pairs.proofs.halved_packed.Tie as tie
 
 enum-told : tie.Need-enum-told
 enum-told c = search needs
 
-paired-loop-requires : tie.Need-paired-loop-requires
-paired-loop-requires c κs = ((c .before .before .before .before .before .before .before .pre .0, ap paired (c .before .before .enum-told .given .1)), (c .before .before .before .before .before .before .before .pre .1 .0, c .before .before .before .before .before .before .before .pre .1 .1))
+block-loop-requires : tie.Need-block-loop-requires
+block-loop-requires c κs =
+    let i = c .before .before .before .before .before .before .before .pre in
+    ((i .0, ap paired (c .before .before .enum-told .given .1)), (i .1 .0, (i .1 .1, i .1 .1)))
 
 enum-told-2 : tie.Need-enum-told-2
 enum-told-2 c = search needs
 
-paired-loop-requires-2 : tie.Need-paired-loop-requires-2
-paired-loop-requires-2 c κs = ((c .before .before .before .before .before .before .before .pre .0, ap paired (c .before .before .enum-told2 .given .1)), (c .before .before .before .before .before .before .before .pre .1 .0, c .before .before .before .before .before .before .before .pre .1 .1))
+paired-loop-requires : tie.Need-paired-loop-requires
+paired-loop-requires c κs = ((c .before .before .before .before .before .before .before .pre .0, ap paired (c .before .before .enum-told2 .given .1)), (c .before .before .before .before .before .before .before .pre .1 .0, c .before .before .before .before .before .before .before .pre .1 .1))
 
 enum-told-3 : tie.Need-enum-told-3
 enum-told-3 c = search needs
@@ -30,7 +33,9 @@ same-length-2 : tie.Need-same-length-2
 same-length-2 c = search needs
 
 returns : tie.Need-returns
-returns c = search needs
+returns c =
+    let v = c .before .before .before .before .before .before .before .before .before .before .before .before .args in
+    written-once (v .s) (v .w) (v .width) (v .rgba .now) (c .before .before .before .before .block-loop .ensures)
 
 same-length-3 : tie.Need-same-length-3
 same-length-3 c = search needs
@@ -55,9 +60,9 @@ halved-packed-spec =
     tie.close
     (tie.spec
     enum-told
-    paired-loop-requires
+    block-loop-requires
     enum-told-2
-    paired-loop-requires-2
+    paired-loop-requires
     enum-told-3
     single-loop-requires
     same-length
