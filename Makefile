@@ -11,7 +11,7 @@ STRICT = -Wall -Wextra -pedantic -Werror
 RULES = $(shell find crates -name '*.rt' -o -name '*.antt') crates.txt
 SHARED := libayresokum.so.$(shell awk '/define AYRESOKUM_VERSION/ { print $$3 }' include/ayresokum.h)
 
-.PHONY: lib demo examples outputs output-settings output-frames output-checks output-exports calls rust test clean
+.PHONY: lib demo examples outputs output-settings output-frames output-checks output-ring output-exports calls rust test clean
 
 lib: build/libayresokum.a build/libayresokum.so
 
@@ -42,7 +42,7 @@ examples: build/demo build/whole_frame
 	build/whole_frame | cmp - examples/whole_frame.txt
 	build/demo | cmp - examples/demo.txt
 
-outputs: output-settings output-frames output-checks output-exports
+outputs: output-settings output-frames output-checks output-ring output-exports
 
 output-settings:
 	python3 compare/settings.py crates/run_settings/stdout
@@ -53,10 +53,13 @@ output-frames:
 output-checks:
 	python3 compare/checks.py crates/run_checks/stdout crates/run_edges/stdout
 
+output-ring:
+	python3 compare/ring.py crates/run_ring/stdout
+
 output-exports:
 	python3 compare/exports.py crates/run_exports/stdout
 
-calls: build/libayresokum.so build/other_version.so build/no_version.so
+calls: build/libayresokum.so build/other_version.so build/no_version.so build/version_alone.so
 	python3 compare/boundary.py
 	python3 compare/calls.py
 

@@ -2,11 +2,13 @@
 from fractions import Fraction
 from itertools import zip_longest
 
-from model import TABLE, Frame, Settings
+from model import TABLE, Frame, Settings, convert_ring
 
 ROOM = 65540
 ROW = (1023, 0, 0, 0, 0, 1023, 1023, 1023, 1023)
 MATRICES = dict(enumerate(TABLE)) | {5: (Fraction(1, 4), Fraction(1, 8)), 55: (Fraction(0), Fraction(0))}
+# the refusal of a number that names no case of its enumeration, before all others
+UNNAMED = 18
 
 
 def source_of(depth, seed, length, at, sample):
@@ -62,6 +64,13 @@ def shown(name, plane):
 def padded(numbers, count):
     """So many numbers: those that apply, then 0."""
     return [*numbers] + [0] * (count - len(numbers))
+
+
+def ring_lines(c, count):
+    """The lines of a ring of so many frames: all numbers of the answer, and both planes after."""
+    written, refusal, luma, chroma = (convert_ring(c.settings, c.frame, count, c.source(), *c.planes()) if c.named
+                                      else (0, (UNNAMED,), *c.planes()))
+    return [line_of('ringed', [written, *padded(refusal, 4)]), shown('luma', luma), shown('chroma', chroma)]
 
 
 def checked_numbers(answer):

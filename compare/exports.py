@@ -2,10 +2,8 @@
 """exports.py FILE: works out every call of FILE, the output of the program run_exports, afresh and says which differ."""
 import sys
 
-from cases import Case, checked_numbers, differing, line_of, padded, shown
+from cases import UNNAMED, Case, checked_numbers, differing, line_of, padded, ring_lines, shown
 from model import check, convert
-
-UNNAMED = 18
 
 
 def settled(c):
@@ -24,12 +22,12 @@ def work_out(case):
     source = c.source()
     refusal, luma, chroma = convert(c.settings, c.frame, source, *c.planes()) if c.named else ((UNNAMED,), *c.planes())
     return [case, line_of('settled', settled(c)), line_of('converted', padded(refusal, 4)), shown('luma', luma), shown('chroma', chroma),
-            line_of('checked', checked(c, source, luma, chroma))]
+            line_of('checked', checked(c, source, luma, chroma)), *ring_lines(c, 1)]
 
 
 def main():
     lines = open(sys.argv[1]).read().splitlines()
-    calls = [lines[i:i + 6] for i in range(0, len(lines), 6)]
+    calls = [lines[i:i + 9] for i in range(0, len(lines), 9)]
     wrong = differing(['\n'.join(call) for call in calls], ['\n'.join(work_out(call[0])) for call in calls])
     answers = [int(call[2].split()[1]) for call in calls]
     print(f'{len(calls)} calls of each function, {len(wrong)} differ')

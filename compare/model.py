@@ -1,5 +1,5 @@
-"""A model of document 01, with request One of document 02, that shares nothing with the proved code: exact fractions, 32-bit floats
-rounded from them to the nearest (ties to even), and whole numbers of any size."""
+"""A model of document 01, with requests One and Two of document 02, that shares nothing with the proved code: exact fractions, 32-bit
+floats rounded from them to the nearest (ties to even), and whole numbers of any size."""
 import struct
 from fractions import Fraction
 from functools import lru_cache
@@ -165,17 +165,30 @@ def too_large(s, f, source):
             for channel, sample in enumerate(pixel(s, f, source, y, x)) if sample > s.m())
 
 
-def frame_refusal(s, f, source, luma, chroma):
-    """The numbers of a refusal, 7 to 10, or none: 10 comes with the place of the first sample above m."""
+def shape_refusal(s, f):
+    """Refusal 7 or 8, or none: a frame's size and strides."""
     if not (1 <= f.width <= 16384 and 1 <= f.height <= 16384):
         return (7,)
-    wide, high = s.chroma_size(f.width, f.height)
+    wide, _ = s.chroma_size(f.width, f.height)
     strides = ((f.width * COUNT[s.channels], f.source_stride), (f.width, f.luma_stride), (wide, f.chroma_stride))
-    if any(not low <= stride <= 65536 for low, stride in strides):
-        return (8,)
-    if (len(source), len(luma), len(chroma)) != (f.height * f.source_stride, f.height * f.luma_stride, high * f.chroma_stride):
-        return (9,)
-    return next(((10, *place) for place in too_large(s, f, source)), ())
+    return (8,) if any(not low <= stride <= 65536 for low, stride in strides) else ()
+
+
+def lengths(s, f):
+    """How many elements of the source, of luma and of chroma one frame takes."""
+    _, high = s.chroma_size(f.width, f.height)
+    return f.height * f.source_stride, f.height * f.luma_stride, high * f.chroma_stride
+
+
+def length_refusal(s, f, count, *buffers):
+    """Refusal 9, or none: each buffer is as long as so many frames."""
+    return () if [len(buffer) for buffer in buffers] == [count * length for length in lengths(s, f)] else (9,)
+
+
+def frame_refusal(s, f, source, luma, chroma):
+    """The numbers of a refusal, 7 to 10, or none: 10 comes with the place of the first sample above m."""
+    return (shape_refusal(s, f) or length_refusal(s, f, 1, source, luma, chroma)
+            or next(((10, *place) for place in too_large(s, f, source)), ()))
 
 
 def mean(samples):
@@ -200,6 +213,23 @@ def convert(s, f, source, luma, chroma):
             average = tuple(mean([p[c] for p in pixels]) for c in range(3))
             chroma[row * f.chroma_stride + k] = s.word(code(s.precision, 2 ** (s.depth - 1), w[3:6] if is_u else w[6:9], average))
     return (), luma, chroma
+
+
+def convert_ring(s, f, count, source, luma, chroma):
+    """Frames laid end to end, converted one after the other up to the first that is refused: how many were written, the numbers of the
+    refusal that ended it, or none, and both planes after."""
+    settled = s.settle()
+    refusal = (settled,) if isinstance(settled, int) else shape_refusal(s, f)
+    refusal = refusal or (() if 1 <= count <= 64 else (11,)) or length_refusal(s, f, count, source, luma, chroma)
+    if refusal:
+        return 0, refusal, luma, chroma
+    luma, chroma = list(luma), list(chroma)
+    for i in range(count):
+        x, y, z = (slice(i * length, (i + 1) * length) for length in lengths(s, f))
+        refusal, luma[y], chroma[z] = convert(s, f, source[x], luma[y], chroma[z])
+        if refusal:
+            return i, refusal, luma, chroma
+    return count, (), luma, chroma
 
 
 def formed(s, word):

@@ -96,14 +96,15 @@ pub fn frame_of(c: Case) -> Frame
     }
 }
 
-fn count_of(channels: u32) -> usize
-    ensures { λ r. ⌜ r ≤ 4 ⌝ }
+// The element of a source row that a pixel starts at.
+pub fn first_element(channels: u32, column: usize) -> usize
+    requires { ⌜ column ≤ 20000 ⌝ }
+    ensures { λ r. ⌜ r ≤ 4 * column ⌝ }
 {
     match channels {
-        0 => 3,
-        1 => 4,
-        2 => 4,
-        _ => 3,
+        1 => 4 * column,
+        2 => 4 * column,
+        _ => 3 * column,
     }
 }
 
@@ -145,7 +146,7 @@ pub fn laid(c: Case, width: usize, height: usize, pad: usize) -> Case
     let mut d = c;
     d.width = width;
     d.height = height;
-    d.source_stride = width * count_of(c.channels) + pad;
+    d.source_stride = first_element(c.channels, width) + pad;
     d.luma_stride = width + pad;
     d.chroma_stride = chroma_width(c.subsampling, width) + pad;
     d.source = area(d.source_stride, height);

@@ -97,9 +97,16 @@ pub fn source_of(c: Case) -> Room
     source
 }
 
+// The smaller of two lengths.
+pub fn least(a: usize, b: usize) -> usize
+    ensures { λ r. ⌜ r ≤ b ⌝ }
+{
+    if a < b { a } else { b }
+}
+
 // A length, or that of the room where it is greater.
 pub fn within_room(length: usize) -> usize
     ensures { λ r. ⌜ r ≤ 65540 ⌝ }
 {
-    if length < 65540 { length } else { 65540 }
+    least(length, 65540)
 }

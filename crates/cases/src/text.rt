@@ -7,6 +7,7 @@ use crate::draw::Room;
 use crate::draw::within_room;
 use answer_numbers::CheckedNumbers;
 use answer_numbers::ConvertedNumbers;
+use answer_numbers::RingNumbers;
 use libc::STDOUT_FILENO;
 use rules::SourcePlace;
 
@@ -88,6 +89,23 @@ pub fn converted(t: ConvertedNumbers) -> usize
     ensures { λ r. ⌜ r ≤ 4 ⌝ }
 {
     refusal(b"answer", t.refusal, t.sample)
+}
+
+// A ring's answer, all its numbers.
+pub fn ringed(t: RingNumbers) -> usize
+    ensures { λ r. ⌜ r ≡ 5 ⌝ }
+{
+    let p = t.sample;
+    line(
+        b"ringed",
+        &[
+            small(t.written),
+            small(t.refusal),
+            small(p.row),
+            small(p.pixel),
+            small(p.channel),
+        ],
+    )
 }
 
 // A check's answer.

@@ -49,10 +49,10 @@ fn try_rows(
 )
     requires { ⌜ (r .first ≤ 4) × (r .count ≤ 4) ⌝ }
 {
-    calls::convert(c, source, luma, chroma);
+    convert_calls::convert(c, source, luma, chroma);
     lay(c, luma, chroma, old_luma, old_chroma, r);
     text::line(b"left", &[r.plane, r.first, r.count]);
-    calls::check_and_put(c, source, luma, chroma);
+    check_calls::check_and_put(c, source, luma, chroma);
 }
 
 // Each row of a plane alone, and with all rows below it.
@@ -92,7 +92,7 @@ fn try_planes(
     old_luma: &mut Room,
     old_chroma: &mut Room,
 ) {
-    calls::convert(other, other_source, old_luma, old_chroma);
+    convert_calls::convert(other, other_source, old_luma, old_chroma);
     try_plane(c, source, luma, chroma, old_luma, old_chroma, 0);
     try_plane(c, source, luma, chroma, old_luma, old_chroma, 1);
 }

@@ -24,11 +24,11 @@ fn flip_second(c: Case, luma: &mut Room, chroma: &mut Room, a: usize, b: usize) 
 }
 
 fn try_pair(c: Case, source: &Room, luma: &mut Room, chroma: &mut Room, a: usize, b: usize) {
-    calls::convert(c, source, luma, chroma);
+    convert_calls::convert(c, source, luma, chroma);
     flip(c, luma, chroma, a);
     flip_second(c, luma, chroma, a, b);
     text::line(b"pair", &[a, b]);
-    calls::check_and_put(c, source, luma, chroma);
+    check_calls::check_and_put(c, source, luma, chroma);
 }
 
 // A frame of 3×2 has at most 22 elements.

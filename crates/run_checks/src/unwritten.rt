@@ -10,7 +10,7 @@ fn check(c: Case) {
     let luma = draw::room(7);
     let chroma = draw::room(7);
     text::line(b"unwritten", &[]);
-    calls::check_and_put(c, &source, &luma, &chroma);
+    check_calls::check_and_put(c, &source, &luma, &chroma);
 }
 
 fn check_settings(depth: u32, precision: u32, matrix: u32, width: usize) {

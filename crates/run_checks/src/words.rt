@@ -1,14 +1,14 @@
 // Each of the 65,536 words in turn at one place of a converted frame of 3×3 pixels with one element of padding in each row: how
 // many are accepted, the first and the last of them, and for how many the check names that very place.
 use answer_numbers::CheckedNumbers;
-use calls::spot::Spot;
-use calls::spot::check_word;
-use calls::spot::named;
-use calls::spot::spot_at;
 use cases::case::Case;
 use cases::draw;
 use cases::draw::Room;
 use cases::text;
+use check_calls::spot::Spot;
+use check_calls::spot::check_word;
+use check_calls::spot::named;
+use check_calls::spot::spot_at;
 
 struct Tally {
     accepted: usize,
@@ -38,7 +38,7 @@ fn tallied(tally: Tally, spot: Spot, t: CheckedNumbers, v: usize) -> Tally {
 }
 
 fn try_words(c: Case, source: &Room, luma: &mut Room, chroma: &mut Room, spot: Spot) {
-    calls::convert(c, source, luma, chroma);
+    convert_calls::convert(c, source, luma, chroma);
     let mut tally = Tally {
         accepted: 0,
         first: 0,

@@ -63,7 +63,7 @@ fn put_planes(c: Case, luma: &mut Room, chroma: &Room) {
 
 // Frames that are refused are left out, since the crate refuses none of them.
 fn convert_and_put(c: Case, source: &Room, luma: &mut Room, chroma: &mut Room) -> u32 {
-    let answer = calls::convert(c, source, luma, chroma);
+    let answer = convert_calls::convert(c, source, luma, chroma);
     if answer.refusal == 0 {
         put_planes(c, luma, chroma);
     }

@@ -2,13 +2,13 @@
 // place at the codes just beyond.
 ghost use Prim.Native.Nat.{_≤_, _<_};
 use answer_numbers::CheckedNumbers;
-use calls::spot::Spot;
-use calls::spot::check_word;
-use calls::spot::get_word;
-use calls::spot::named;
-use calls::spot::put_word;
 use cases::case::Case;
 use cases::draw::Room;
+use check_calls::spot::Spot;
+use check_calls::spot::check_word;
+use check_calls::spot::get_word;
+use check_calls::spot::named;
+use check_calls::spot::put_word;
 
 // The lowest and the highest code, and at how many of the two just beyond them the place is named.
 pub(crate) struct Accepted {

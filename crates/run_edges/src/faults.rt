@@ -91,9 +91,9 @@ fn try_row(
 ) -> Answers
     requires { ⌜ (row ≤ 32) × (last ≤ 64) ⌝ }
 {
-    calls::convert(c, source, luma, chroma);
+    convert_calls::convert(c, source, luma, chroma);
     spoil(c, luma, chroma, fault, row, last);
-    answers::with_answer(so_far, calls::check(c, source, luma, chroma))
+    answers::with_answer(so_far, check_calls::check(c, source, luma, chroma))
 }
 
 // Each row from the first to the last.

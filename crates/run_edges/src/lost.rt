@@ -69,9 +69,9 @@ fn try_pixel(
     requires { ⌜ (to ≤ 2162688) × (from ≤ 2162688) ⌝ }
 {
     copy(changed, source, to, from);
-    calls::convert(c, changed, spare, chroma);
+    convert_calls::convert(c, changed, spare, chroma);
     copy(changed, source, to, to);
-    answers::with_answer(so_far, calls::check(c, source, luma, chroma))
+    answers::with_answer(so_far, check_calls::check(c, source, luma, chroma))
 }
 
 // Sixteen pictures of a row have a pixel lost: two for each of two columns of four.
@@ -155,7 +155,7 @@ fn try_frame(
     spare: &mut Room,
     chroma: &mut Room,
 ) {
-    calls::convert(c, source, luma, chroma);
+    convert_calls::convert(c, source, luma, chroma);
     try_rows(c, source, changed, luma, spare, chroma, least(c.height, 32));
 }
 

@@ -5,13 +5,13 @@ use crate::edges::Accepted;
 use crate::edges::Two;
 use crate::edges::accepted_at;
 use crate::edges::accepted_at_two;
-use calls::spot::spot_at;
 use cases::case;
 use cases::case::Case;
 use cases::draw;
 use cases::draw::Room;
 use cases::planes::put;
 use cases::text;
+use check_calls::spot::spot_at;
 
 // Settings, the number of pixels, and the sums of their channels.
 struct Block {
@@ -111,7 +111,7 @@ fn try_block(c: Case, b: Block, source: &Room, luma: &mut Room, chroma: &mut Roo
 
 fn convert_and_try(c: Case, b: Block, source: &mut Room, luma: &mut Room, chroma: &mut Room) {
     put_pixels(source, b);
-    calls::convert(c, source, luma, chroma);
+    convert_calls::convert(c, source, luma, chroma);
     try_block(c, b, source, luma, chroma);
 }
 

@@ -6,12 +6,12 @@ use crate::edges::Two;
 use crate::edges::accepted_at;
 use crate::edges::accepted_at_two;
 use crate::faults;
-use calls::spot::Spot;
 use cases::case::Case;
 use cases::draw;
 use cases::draw::Room;
 use cases::planes::index;
 use cases::text;
+use check_calls::spot::Spot;
 
 fn stride_of(c: Case, plane: u32) -> usize {
     if plane == 0 {
@@ -143,7 +143,7 @@ fn chroma_end(c: Case) -> End
 fn try_planes(c: Case, source: &Room, luma: &mut Room, chroma: &mut Room, y: End, uv: End)
     requires { ⌜ (y .row ≤ 32) × (y .element ≤ 64) × (uv .row ≤ 32) × (uv .element ≤ 64) ⌝ }
 {
-    calls::convert(c, source, luma, chroma);
+    convert_calls::convert(c, source, luma, chroma);
     try_plane(c, source, luma, chroma, 0, y.row, y.element);
     try_plane(c, source, luma, chroma, 1, uv.row, uv.element);
 }

@@ -1,4 +1,5 @@
-// One case: the answers of settle, convert and check, each with all its numbers, and both planes.
+// One case: the answers of settle, convert and check, each with all its numbers, and both planes; then the same of the frame as a ring
+// of one.
 use answer_numbers::CheckedNumbers;
 use answer_numbers::ConvertedNumbers;
 use answer_numbers::SettledNumbers;
@@ -72,16 +73,24 @@ fn put_checked(t: CheckedNumbers) {
 }
 
 fn convert_and_check(c: Case, source: &Room, luma: &mut Room, chroma: &mut Room) {
-    put_converted(calls::convert(c, source, luma, chroma));
+    put_converted(convert_calls::convert(c, source, luma, chroma));
     text::planes(c, luma, chroma);
-    put_checked(calls::check(c, source, luma, chroma));
+    put_checked(check_calls::check(c, source, luma, chroma));
+}
+
+fn convert_as_ring(c: Case, source: &Room, luma: &mut Room, chroma: &mut Room) {
+    text::ringed(convert_calls::rings::convert_ring(c, 1, source, luma, chroma));
+    text::planes(c, luma, chroma);
 }
 
 pub(crate) fn run(c: Case) {
     text::case(c);
-    put_settled(calls::settle(c));
+    put_settled(convert_calls::settle(c));
     let source = draw::source_of(c);
     let mut luma = draw::room(7);
     let mut chroma = draw::room(7);
     convert_and_check(c, &source, &mut luma, &mut chroma);
+    let mut ring_luma = draw::room(7);
+    let mut ring_chroma = draw::room(7);
+    convert_as_ring(c, &source, &mut ring_luma, &mut ring_chroma);
 }

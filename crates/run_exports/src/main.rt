@@ -1,4 +1,4 @@
-// Calls the three exported functions by numbers and prints each answer whole: with numbers that name no case of their enumeration, alone
+// Calls the exported functions by numbers and prints each answer whole: with numbers that name no case of their enumeration, alone
 // and beside every other refusal, and with settings that settle; compare/exports.py works every line out afresh.
 ghost use Prim.Native.Nat.{_<_, _≤_};
 use cases::case;

@@ -29,8 +29,8 @@ fn put_places(at: usize, n: ConvertedNumbers, t: CheckedNumbers) {
 }
 
 fn convert_and_check(c: Case, source: &Room, luma: &mut Room, chroma: &mut Room, at: usize) {
-    let n = calls::convert(c, source, luma, chroma);
-    let t = calls::check(c, source, luma, chroma);
+    let n = convert_calls::convert(c, source, luma, chroma);
+    let t = check_calls::check(c, source, luma, chroma);
     put_places(at, n, t);
 }
 

@@ -4,8 +4,10 @@ ghost use Prim.Native.Nat.{_≤_, _<_};
 use answer_numbers::CheckedNumbers;
 use answer_numbers::ConvertedNumbers;
 use cases::case::Case;
+use cases::case::first_element;
 use cases::draw;
 use cases::draw::Room;
+use cases::draw::least;
 use cases::planes::get;
 use cases::planes::index;
 use cases::planes::put;
@@ -61,8 +63,8 @@ fn convert_and_check(
     chroma: &mut Room,
     tally: Tally,
 ) -> Tally {
-    let n = calls::convert(c, source, luma, chroma);
-    let t = calls::check(c, source, luma, chroma);
+    let n = convert_calls::convert(c, source, luma, chroma);
+    let t = check_calls::check(c, source, luma, chroma);
     counted(tally, n, t)
 }
 
@@ -127,18 +129,6 @@ fn try_elements(
     next
 }
 
-// The element of a row that a pixel starts at.
-fn first_of(channels: u32, column: usize) -> usize
-    requires { ⌜ column ≤ 64 ⌝ }
-    ensures { λ r. ⌜ r ≤ 256 ⌝ }
-{
-    match channels {
-        1 => 4 * column,
-        2 => 4 * column,
-        _ => 3 * column,
-    }
-}
-
 fn try_pixel(
     c: Case,
     source: &mut Room,
@@ -151,7 +141,7 @@ fn try_pixel(
     requires { ⌜ (row ≤ 32) × (column ≤ 64) ⌝ }
 {
     let stride = c.source_stride;
-    let first = index(stride, row, first_of(c.channels, column));
+    let first = index(stride, row, first_element(c.channels, column));
     try_elements(c, source, luma, chroma, first, tally)
 }
 
@@ -213,12 +203,6 @@ fn try_rows(
     for row in 0..rows {
         try_row(c, source, luma, chroma, row, last);
     }
-}
-
-fn least(a: usize, b: usize) -> usize
-    ensures { λ r. ⌜ r ≤ b ⌝ }
-{
-    if a < b { a } else { b }
 }
 
 fn last_column(width: usize) -> usize {

@@ -2,6 +2,7 @@
 // afresh.
 ghost use Prim.Native.Nat.{_≤_, _<_};
 use cases::case;
+use cases::sweeps;
 
 mod from;
 mod high;
@@ -208,66 +209,21 @@ fn orders() {
     run::run(e);
 }
 
-// Every subsampling at sizes from 1×1 to 5×5, the other settings changing from frame to frame.
-fn run_size(t: usize)
-    requires { ⌜ t < 75 ⌝ }
-{
-    let mut c = case::base();
-    c.depth = 10 + (t % 7) as u32;
-    c.matrix = (t % 6) as u32;
-    c.range = (t / 2 % 2) as u32;
-    c.subsampling = (t / 25) as u32;
-    c.order = (t / 3 % 2) as u32;
-    c.packing = (t / 4 % 2) as u32;
-    c.byte_order = (t / 5 % 2) as u32;
-    c.channels = (t % 4) as u32;
-    c.seed = (t + 10) as u32;
-    run::run(case::laid(c, 1 + t % 5, 1 + t / 5 % 5, t % 3));
-}
-
 fn sweep_sizes() {
     for t in 0..75 {
-        run_size(t);
+        run::run(sweeps::size(t));
     }
-}
-
-// Every range, subsampling, order, packing, byte order and channel layout, at 3×3.
-fn run_layout(t: usize)
-    requires { ⌜ t < 192 ⌝ }
-{
-    let mut c = case::base();
-    c.range = (t % 2) as u32;
-    c.order = (t / 2 % 2) as u32;
-    c.packing = (t / 4 % 2) as u32;
-    c.byte_order = (t / 8 % 2) as u32;
-    c.channels = (t / 16 % 4) as u32;
-    c.subsampling = (t / 64) as u32;
-    c.seed = (t + 100) as u32;
-    run::run(case::laid(c, 3, 3, 1));
 }
 
 fn sweep_layouts() {
     for t in 0..192 {
-        run_layout(t);
+        run::run(sweeps::layout(t));
     }
-}
-
-// Every depth, precision and range, at 2×2.
-fn run_depth(t: usize)
-    requires { ⌜ t < 182 ⌝ }
-{
-    let mut c = case::base();
-    c.depth = 10 + (t % 7) as u32;
-    c.precision = 1 + (t / 7 % 13) as u32;
-    c.range = (t / 91) as u32;
-    c.matrix = 1;
-    c.seed = (t + 300) as u32;
-    run::run(case::laid(c, 2, 2, 0));
 }
 
 fn sweep_depths() {
     for t in 0..182 {
-        run_depth(t);
+        run::run(sweeps::depth(t));
     }
 }
 

@@ -6,7 +6,7 @@ use cases::planes::put;
 use cases::text;
 
 fn convert_and_put(c: Case, source: &Room, luma: &mut Room, chroma: &mut Room) {
-    text::converted(calls::convert(c, source, luma, chroma));
+    text::converted(convert_calls::convert(c, source, luma, chroma));
     text::planes(c, luma, chroma);
 }
 
@@ -17,11 +17,11 @@ fn spoil(plane: &mut Room, seed: u32) {
 
 // Checks what was written; then with chroma spoiled; then with luma spoiled too.
 fn check_spoiled(c: Case, source: &Room, luma: &mut Room, chroma: &mut Room) {
-    calls::check_and_put(c, source, luma, chroma);
+    check_calls::check_and_put(c, source, luma, chroma);
     spoil(chroma, c.seed);
-    calls::check_and_put(c, source, luma, chroma);
+    check_calls::check_and_put(c, source, luma, chroma);
     spoil(luma, c.seed);
-    calls::check_and_put(c, source, luma, chroma);
+    check_calls::check_and_put(c, source, luma, chroma);
 }
 
 fn convert_and_check(c: Case, source: &Room, luma: &mut Room, chroma: &mut Room) {

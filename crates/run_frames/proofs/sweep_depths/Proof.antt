@@ -13,8 +13,11 @@ abbrev μ-loop : tie.MeasureT-loop
 loop-holds : tie.Need-loop-holds Inv-loop μ-loop
 loop-holds c = search needs
 
-run-depth-requires : tie.Need-run-depth-requires Inv-loop μ-loop
-run-depth-requires c κs = search needs
+depth-requires : tie.Need-depth-requires Inv-loop μ-loop
+depth-requires c κs = search needs
+
+run-requires : tie.Need-run-requires Inv-loop μ-loop
+run-requires c κs = search needs
 
 add-t : tie.Need-add-t Inv-loop μ-loop
 add-t c = search needs
@@ -31,4 +34,4 @@ returns c = search needs
 pub sweep-depths-spec : {M : Type 1} → statement M
 sweep-depths-spec =
     tie.close
-    (tie.spec Inv-loop μ-loop loop-holds run-depth-requires add-t loop-less loop-again returns)
+    (tie.spec Inv-loop μ-loop loop-holds depth-requires run-requires add-t loop-less loop-again returns)

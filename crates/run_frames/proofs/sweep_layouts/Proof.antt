@@ -13,8 +13,11 @@ abbrev μ-loop : tie.MeasureT-loop
 loop-holds : tie.Need-loop-holds Inv-loop μ-loop
 loop-holds c = search needs
 
-run-layout-requires : tie.Need-run-layout-requires Inv-loop μ-loop
-run-layout-requires c κs = search needs
+layout-requires : tie.Need-layout-requires Inv-loop μ-loop
+layout-requires c κs = search needs
+
+run-requires : tie.Need-run-requires Inv-loop μ-loop
+run-requires c κs = search needs
 
 add-t : tie.Need-add-t Inv-loop μ-loop
 add-t c = search needs
@@ -31,4 +34,4 @@ returns c = search needs
 pub sweep-layouts-spec : {M : Type 1} → statement M
 sweep-layouts-spec =
     tie.close
-    (tie.spec Inv-loop μ-loop loop-holds run-layout-requires add-t loop-less loop-again returns)
+    (tie.spec Inv-loop μ-loop loop-holds layout-requires run-requires add-t loop-less loop-again returns)

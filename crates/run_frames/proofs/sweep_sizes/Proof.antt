@@ -13,8 +13,11 @@ abbrev μ-loop : tie.MeasureT-loop
 loop-holds : tie.Need-loop-holds Inv-loop μ-loop
 loop-holds c = search needs
 
-run-size-requires : tie.Need-run-size-requires Inv-loop μ-loop
-run-size-requires c κs = search needs
+size-requires : tie.Need-size-requires Inv-loop μ-loop
+size-requires c κs = search needs
+
+run-requires : tie.Need-run-requires Inv-loop μ-loop
+run-requires c κs = search needs
 
 add-t : tie.Need-add-t Inv-loop μ-loop
 add-t c = search needs
@@ -31,4 +34,4 @@ returns c = search needs
 pub sweep-sizes-spec : {M : Type 1} → statement M
 sweep-sizes-spec =
     tie.close
-    (tie.spec Inv-loop μ-loop loop-holds run-size-requires add-t loop-less loop-again returns)
+    (tie.spec Inv-loop μ-loop loop-holds size-requires run-requires add-t loop-less loop-again returns)

@@ -1,18 +1,13 @@
 -- `cases::case::laid` meets its contract. Assumes nothing.
 use borrow.Author.Needs.{needs}
-use native.Mathlib.Nat.{mul-le-mul}
-use native.Mathlib.Omega.{arith}
 use Rattle.cases.proofs.case.laid.Statement.{statement}
 use Rattle.cases.proofs.case.laid.Tie as tie
 
-count-of-requires : tie.Need-count-of-requires
-count-of-requires c κs = search needs
-
-mul-d : tie.Need-mul-d
-mul-d c = omega (arith, mul-le-mul (c .before .pre .0) (c .count-of .ensures))
+first-element-requires : tie.Need-first-element-requires
+first-element-requires c κs = search needs
 
 add-d : tie.Need-add-d
-add-d c = omega (arith, mul-le-mul (c .before .pre .0) (c .count-of .ensures))
+add-d c = search needs
 
 add-d-2 : tie.Need-add-d-2
 add-d-2 c = search needs
@@ -24,7 +19,7 @@ add-d-3 : tie.Need-add-d-3
 add-d-3 c = search needs
 
 area-requires : tie.Need-area-requires
-area-requires c κs = (omega (arith, mul-le-mul (c .before .before .pre .0) (c .before .count-of .ensures)), omega arith)
+area-requires c κs = search needs
 
 area-requires-2 : tie.Need-area-requires-2
 area-requires-2 c κs = search needs
@@ -42,8 +37,7 @@ pub laid-spec : {M : Type 1} → statement M
 laid-spec =
     tie.close
     (tie.spec
-    count-of-requires
-    mul-d
+    first-element-requires
     add-d
     add-d-2
     chroma-width-requires

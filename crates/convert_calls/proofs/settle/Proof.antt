@@ -1,9 +1,9 @@
--- `calls::settle` meets its contract. Assumes nothing.
+-- `convert_calls::settle` meets its contract. Assumes nothing.
 use borrow.Author.Needs.{needs}
 use Rattle.numbers.specs.Numbers.{settingsOf}
-use Rattle.calls.proofs.Small.{small-settled}
-use Rattle.calls.proofs.settle.Statement.{statement}
-use Rattle.calls.proofs.settle.Tie as tie
+use Rattle.convert_calls.proofs.Small.{small-settled}
+use Rattle.convert_calls.proofs.settle.Statement.{statement}
+use Rattle.convert_calls.proofs.settle.Tie as tie
 
 settings-of-requires : tie.Need-settings-of-requires
 settings-of-requires c κs = search needs

@@ -1,9 +1,9 @@
--- `calls::check_first` meets its contract. Assumes nothing.
+-- `check_calls::check_first` meets its contract. Assumes nothing.
 use borrow.Author.Needs.{needs}
 use native.Mathlib.Omega.{arith}
 use lib.ListN.{length-take}
-use Rattle.calls.proofs.check_first.Statement.{statement}
-use Rattle.calls.proofs.check_first.Tie as tie
+use Rattle.check_calls.proofs.check_first.Statement.{statement}
+use Rattle.check_calls.proofs.check_first.Tie as tie
 
 least-requires : tie.Need-least-requires
 least-requires c κs = search needs

@@ -1,9 +1,9 @@
--- `calls::check_parts` meets its contract. Assumes nothing.
+-- `check_calls::check_parts` meets its contract. Assumes nothing.
 use borrow.Author.Needs.{needs}
 use Rattle.numbers.specs.Numbers.{settingsOf}
-use Rattle.calls.proofs.Small.{small-checked}
-use Rattle.calls.proofs.check_parts.Statement.{statement}
-use Rattle.calls.proofs.check_parts.Tie as tie
+use Rattle.check_calls.proofs.Small.{small-checked}
+use Rattle.check_calls.proofs.check_parts.Statement.{statement}
+use Rattle.check_calls.proofs.check_parts.Tie as tie
 
 settings-of-requires : tie.Need-settings-of-requires
 settings-of-requires c κs = search needs

@@ -1,9 +1,9 @@
--- `calls::convert_parts` meets its contract. Assumes nothing.
+-- `convert_calls::convert_parts` meets its contract. Assumes nothing.
 use borrow.Author.Needs.{needs}
 use Rattle.numbers.specs.Numbers.{settingsOf}
-use Rattle.calls.proofs.Small.{small-converted}
-use Rattle.calls.proofs.convert_parts.Statement.{statement}
-use Rattle.calls.proofs.convert_parts.Tie as tie
+use Rattle.convert_calls.proofs.Small.{small-converted}
+use Rattle.convert_calls.proofs.convert_parts.Statement.{statement}
+use Rattle.convert_calls.proofs.convert_parts.Tie as tie
 
 settings-of-requires : tie.Need-settings-of-requires
 settings-of-requires c κs = search needs

@@ -1,54 +1,14 @@
-// The exported functions on a case: it lends the first elements of each buffer.
+// The exported function that checks, called on a case: it lends the first elements of each buffer.
 ghost use Prim.Native.Nat.{_≤_};
 
 pub mod spot;
 
 use answer_numbers::CheckedNumbers;
-use answer_numbers::ConvertedNumbers;
-use answer_numbers::SettledNumbers;
 use cases::case;
 use cases::case::Case;
 use cases::draw::Room;
+use cases::draw::least;
 use cases::text;
-
-pub fn settle(c: Case) -> SettledNumbers
-    ensures { λ r. ⌜ r .refusal ≤ 18 ⌝ }
-{
-    ayresokum::ayresokum_settle(case::settings_of(c))
-}
-
-fn least(a: usize, b: usize) -> usize
-    ensures { λ r. ⌜ r ≤ b ⌝ }
-{
-    if a < b { a } else { b }
-}
-
-fn convert_parts(c: Case, source: &[u16], luma: &mut [u16], chroma: &mut [u16]) -> ConvertedNumbers
-    ensures { λ r. ⌜ r .refusal ≤ 18 ⌝ }
-{
-    ayresokum::ayresokum_convert(
-        case::settings_of(c),
-        case::frame_of(c),
-        source,
-        luma,
-        chroma,
-    )
-}
-
-fn convert_first(c: Case, source: &[u16], luma: &mut [u16], chroma: &mut [u16]) -> ConvertedNumbers
-    ensures { λ r. ⌜ r .refusal ≤ 18 ⌝ }
-{
-    let n = least(c.source, source.len());
-    let m = least(c.luma, luma.len());
-    let k = least(c.chroma, chroma.len());
-    convert_parts(c, &source[..n], &mut luma[..m], &mut chroma[..k])
-}
-
-pub fn convert(c: Case, source: &Room, luma: &mut Room, chroma: &mut Room) -> ConvertedNumbers
-    ensures { λ r. ⌜ r .refusal ≤ 18 ⌝ }
-{
-    convert_first(c, source, luma, chroma)
-}
 
 fn check_parts(c: Case, source: &[u16], luma: &[u16], chroma: &[u16]) -> CheckedNumbers
     ensures { λ r. ⌜ (r .refusal ≤ 18) × (r .wrong ≤ 1) ⌝ }
