@@ -1,12 +1,13 @@
 #!/usr/bin/env python3
 """calls.py: the exported functions called through ctypes: document 01's whole frames, J's weights, limits, empty buffers, and random
-settings and samples that are too large held against the model; and two libraries of other versions, which must not load."""
+settings, rings and samples that are too large held against the model; and libraries of other versions or without functions, which must
+not load."""
 import os
 import random
 
 import model
 from cases import padded
-from library import PATH, VERSION, Frame, Library, OtherVersion, Settings, samples
+from library import EXPORTED, PATH, VERSION, Frame, FunctionMissing, Library, OtherVersion, Settings, samples
 
 J = (10, 13, 0, 0.0, 0.0, 1, 0, 0, 1, 1, 0)
 J_WEIGHTS = [2449, 4809, 934, -1382, -2714, 4096, 4096, -3430, -666]
@@ -34,12 +35,36 @@ def whole_frame(library, rows):
 
 
 def refused(library, settings, frame, number):
-    """Both services, with buffers of the lengths of a 3 x 1 frame and with empty ones; nothing is touched."""
+    """All services, with buffers of the lengths of a 3 x 1 frame and with empty ones; nothing is touched."""
     for lengths in ((9, 4, 6), (0, 0, 0)):
         source, luma, chroma = (samples([7] * n) for n in lengths)
         assert numbers_of(library.convert(settings, frame, source, luma, chroma)) == padded([number], 4)
+        for count in (1, 65):
+            assert numbers_of(library.convert_ring(settings, frame, count, source, luma, chroma)) == padded([0, number], 5)
         assert numbers_of(library.check(settings, frame, source, luma, chroma)) == padded([number], 8)
         assert luma[:] == [7] * lengths[1] and chroma[:] == [7] * lengths[2]
+
+
+def ring_refused(library, count, lengths, number):
+    source, luma, chroma = (samples([7] * n) for n in lengths)
+    assert numbers_of(library.convert_ring(Settings(*J), Frame(3, 1, 9, 4, 6), count, source, luma, chroma)) == padded([0, number], 5)
+    assert luma[:] == [7] * lengths[1] and chroma[:] == [7] * lengths[2]
+
+
+def ring_limits(library):
+    """Counts, and lengths of one frame, of a frame more or fewer, and of an element more or fewer in one buffer."""
+    for count in (0, 65, 2 ** 32 + 1, 2 ** 63 + 1, GREATEST):
+        ring_refused(library, count, (9, 4, 6), 11)
+    ring_refused(library, 65, (65 * 9, 65 * 4, 65 * 6), 11)
+    for lengths in ((9, 4, 6), (18, 8, 12), (36, 16, 24), (26, 12, 18), (28, 12, 18), (27, 11, 18), (27, 13, 18), (27, 12, 17), (27, 12, 19)):
+        ring_refused(library, 3, lengths, 9)
+    for count in (-1, 2 ** 64, 2 ** 64 + 1):
+        try:
+            ring_refused(library, count, (9, 4, 6), 11)
+        except OverflowError as error:
+            assert str(error) == f'{count} is no size_t'
+        else:
+            assert False, f'{count} was passed on'
 
 
 def limits(library):
@@ -75,25 +100,34 @@ def settled(library, draw, count):
         assert library.settle(Settings(depth, precision, matrix, 0.0, 0.0, full, *J[6:])) == expected
 
 
-def drawn(draw):
-    """Settings and a frame of at most 6 x 5, and a source in which few, many or all samples are 65535, alpha and padding among them."""
+def drawn_layout(draw):
+    """Settings and a frame of at most 6 x 5."""
     depth, subsampling, channels = draw.randint(10, 16), draw.randint(0, 2), draw.randint(0, 3)
     s = model.Settings(depth, 13, 'Bt709', False, subsampling, 0, 1, 1, channels)
     width, height = draw.randint(1, 6), draw.randint(1, 5)
-    f = model.Frame(width, height, width * model.COUNT[channels] + draw.randint(0, 2), width, s.chroma_size(width, height)[0])
-    share = draw.choice((0.02, 0.1, 0.5, 1))
-    return s, f, [65535 if draw.random() < share else draw.randint(0, s.m()) for _ in range(f.height * f.source_stride)]
+    return s, model.Frame(width, height, width * model.COUNT[channels] + draw.randint(0, 2), width, s.chroma_size(width, height)[0])
+
+
+def drawn_source(draw, s, f, share):
+    """A frame's source in which such a share of all samples is 65535, alpha and padding among them."""
+    return [65535 if draw.random() < share else draw.randint(0, s.m()) for _ in range(f.height * f.source_stride)]
+
+
+def numbered(s, f):
+    """The model's settings, which have Bt709 and limited range, and its frame as records."""
+    settings = Settings(s.depth, s.precision, 1, 0.0, 0.0, 0, s.subsampling, s.order, s.packing, s.endianness, s.channels)
+    return settings, Frame(f.width, f.height, f.source_stride, f.luma_stride, f.chroma_stride)
 
 
 def too_large(library, draw, count):
     """The place of refusal 10 by convert and by check, and both planes, which a refusal leaves as they were. Gives how many were refused."""
     refused_count = 0
     for _ in range(count):
-        s, f, source = drawn(draw)
-        planes = [7] * f.height * f.luma_stride, [7] * s.chroma_size(f.width, f.height)[1] * f.chroma_stride
+        s, f = drawn_layout(draw)
+        source = drawn_source(draw, s, f, draw.choice((0.02, 0.1, 0.5, 1)))
+        planes = [[7] * length for length in model.lengths(s, f)[1:]]
         refusal, *right = model.convert(s, f, source, *planes)
-        settings = Settings(s.depth, s.precision, 1, 0.0, 0.0, 0, s.subsampling, s.order, s.packing, s.endianness, s.channels)
-        call = settings, Frame(f.width, f.height, f.source_stride, f.luma_stride, f.chroma_stride), samples(source), *map(samples, planes)
+        call = *numbered(s, f), samples(source), *map(samples, planes)
         assert numbers_of(library.convert(*call)) == padded(refusal, 4)
         assert [plane[:] for plane in call[3:]] == right
         assert numbers_of(library.check(*call)) == padded(refusal[:1], 5) + padded(refusal[1:], 3)
@@ -101,26 +135,55 @@ def too_large(library, draw, count):
     return refused_count
 
 
-def assert_not_loaded(name, found):
+def rings(library, draw, count):
+    """Rings of which some have a sample that is too large or a wrong count: the whole answer and both planes. Gives the answers' refusals."""
+    refusals = []
+    for _ in range(count):
+        s, f = drawn_layout(draw)
+        frames = draw.choice((1, 2, 3, 4, 5, 8, 64))
+        given = draw.choice([frames] * 7 + [0, 65, frames - 1, frames + 1])
+        source = [sample for _ in range(frames) for sample in drawn_source(draw, s, f, draw.choice((0, 0, 0, 0.02, 1)))]
+        planes = [[7] * length * frames for length in model.lengths(s, f)[1:]]
+        written, refusal, *right = model.convert_ring(s, f, given, source, *planes)
+        settings, frame = numbered(s, f)
+        lent = [samples(plane) for plane in planes]
+        answer = library.convert_ring(settings, frame, given, samples(source), *lent)
+        assert numbers_of(answer) == [written] + padded(refusal, 4)
+        assert [plane[:] for plane in lent] == right
+        refusals.append(answer.refusal)
+    return refusals
+
+
+def assert_not_loaded(name, error, message):
     path = os.path.join(os.path.dirname(PATH), name)
     try:
         Library(path)
-    except OtherVersion as error:
-        assert str(error) == f'{path} has {found}, and library.py was written for interface {VERSION}: build both from one commit'
+    except error as raised:
+        assert str(raised) == f'{path} has {message}', raised
     else:
         assert False, f'{path} was loaded'
 
 
+def others_not_loaded():
+    written_for = f', and library.py was written for interface {VERSION}: build both from one commit'
+    assert_not_loaded('other_version.so', OtherVersion, f'interface {VERSION + 1}{written_for}')
+    assert_not_loaded('no_version.so', OtherVersion, f'no ayresokum_version{written_for}')
+    missing = ', '.join(name for name in EXPORTED if name != 'ayresokum_version')
+    assert_not_loaded('version_alone.so', FunctionMissing, f'no {missing}: build it from the commit of library.py')
+
+
 def main():
-    assert_not_loaded('other_version.so', f'interface {VERSION + 1}')
-    assert_not_loaded('no_version.so', 'no ayresokum_version')
+    others_not_loaded()
     library = Library()
     assert library.settle(Settings(*J)) == (0, J_WEIGHTS)
     whole_frame(library, 1)
     whole_frame(library, 2)
     limits(library)
+    ring_limits(library)
     settled(library, random.Random(2026), 2000)
     assert too_large(library, random.Random(2026), 1000) > 500
+    refusals = rings(library, random.Random(2026), 600)
+    assert all(refusals.count(number) > 30 for number in (0, 9, 10, 11))
     print('calls from Python: as they should be')
 
 

@@ -34,6 +34,10 @@ class Converted(ctypes.Structure):
     _fields_ = [('refusal', ctypes.c_uint32), ('sample', Sample)]
 
 
+class Ring(ctypes.Structure):
+    _fields_ = [('written', ctypes.c_uint32), ('refusal', ctypes.c_uint32), ('sample', Sample)]
+
+
 class Checked(ctypes.Structure):
     _fields_ = [('refusal', ctypes.c_uint32), ('wrong', ctypes.c_uint32), ('place', Place), ('sample', Sample)]
 
@@ -45,12 +49,17 @@ EXPORTED = {
     'ayresokum_version': ([], ctypes.c_uint32),
     'ayresokum_settle': ([Settings], Settled),
     'ayresokum_convert': ([Settings, Frame] + SAMPLES * 3, Converted),
+    'ayresokum_convert_ring': ([Settings, Frame, ctypes.c_size_t] + SAMPLES * 3, Ring),
     'ayresokum_check': ([Settings, Frame] + SAMPLES * 3, Checked),
 }
 
 
 class OtherVersion(Exception):
     """The library has another interface than this file was written for."""
+
+
+class FunctionMissing(Exception):
+    """The library has this interface, but is older than one of its functions."""
 
 
 def assert_version(path, calls):
@@ -60,10 +69,23 @@ def assert_version(path, calls):
         raise OtherVersion(f'{path} has {found}, and library.py was written for interface {VERSION}: build both from one commit')
 
 
+def assert_complete(path, calls):
+    missing = [name for name in EXPORTED if not hasattr(calls, name)]
+    if missing:
+        raise FunctionMissing(f'{path} has no {", ".join(missing)}: build it from the commit of library.py')
+
+
+def assert_size(number):
+    """ctypes would cut a number to the bits of a size_t and pass on what is left."""
+    if not 0 <= number < 2 ** (8 * ctypes.sizeof(ctypes.c_size_t)):
+        raise OverflowError(f'{number} is no size_t')
+
+
 class Library:
     def __init__(self, path=PATH):
         self.calls = ctypes.CDLL(path)
         assert_version(path, self.calls)
+        assert_complete(path, self.calls)
         for name, (arguments, answer) in EXPORTED.items():
             call = getattr(self.calls, name)
             call.argtypes, call.restype = arguments, answer
@@ -76,6 +98,11 @@ class Library:
     def convert(self, settings, frame, source, luma, chroma):
         """A record Converted, and both planes written where it has no refusal."""
         return self.calls.ayresokum_convert(settings, frame, source, len(source), luma, len(luma), chroma, len(chroma))
+
+    def convert_ring(self, settings, frame, count, source, luma, chroma):
+        """A record Ring, and as many frames of both planes written as it says, which are all where it has no refusal."""
+        assert_size(count)
+        return self.calls.ayresokum_convert_ring(settings, frame, count, source, len(source), luma, len(luma), chroma, len(chroma))
 
     def check(self, settings, frame, source, luma, chroma):
         """A record Checked."""

@@ -1,12 +1,13 @@
 /* A temper-colour ramp is converted and checked; then rows of the frame before are left in the planes, and the check finds them.
- * What is printed answers the auditor's three questions. Last, a gain change makes one sample of the source too large, and both convert
- * and check name it. */
+ * What is printed answers the auditor's three questions. Then a gain change makes one sample of the source too large, and both convert
+ * and check name it. Last, the same happens to one frame of a ring, which is converted up to that frame. */
 #include <ayresokum.h>
 #include <stdio.h>
 #include <string.h>
 
 #define WIDTH 64
 #define HEIGHT 16
+#define RING 4
 
 /* Steel as it is tempered, from pale straw to grey blue, in 10 bits. */
 static const uint16_t TEMPER[8][3] = {
@@ -14,13 +15,18 @@ static const uint16_t TEMPER[8][3] = {
     { 500, 250, 330 }, { 330, 230, 560 }, { 250, 400, 700 }, { 520, 620, 690 }
 };
 
+#define SOURCE (HEIGHT * WIDTH * 3)
 #define LUMA (HEIGHT * WIDTH)
 #define CHROMA (HEIGHT / 2 * WIDTH)
 
-static uint16_t source[HEIGHT * WIDTH * 3];
+static uint16_t source[SOURCE];
 static uint16_t luma[LUMA], chroma[CHROMA];                 /* as recorded */
 static uint16_t written_luma[LUMA], written_chroma[CHROMA]; /* as convert wrote them */
 static uint16_t before_luma[LUMA], before_chroma[CHROMA];   /* of the frame before */
+
+/* Frames laid end to end. */
+static uint16_t ring_source[RING * SOURCE], ring_luma[RING * LUMA], ring_chroma[RING * CHROMA];
+static const uint16_t unwritten[LUMA]; /* as the ring's planes are before, all 0, which is no code of limited range */
 
 static const ayresokum_frame FRAME = { WIDTH, HEIGHT, WIDTH * 3, WIDTH, WIDTH };
 static const ayresokum_settings SETTINGS = {
@@ -45,12 +51,12 @@ static void draw(unsigned moved)
 
 static ayresokum_converted convert(void)
 {
-    return ayresokum_convert(SETTINGS, FRAME, source, sizeof source / sizeof *source, luma, LUMA, chroma, CHROMA);
+    return ayresokum_convert(SETTINGS, FRAME, source, SOURCE, luma, LUMA, chroma, CHROMA);
 }
 
 static ayresokum_checked check(void)
 {
-    return ayresokum_check(SETTINGS, FRAME, source, sizeof source / sizeof *source, luma, LUMA, chroma, CHROMA);
+    return ayresokum_check(SETTINGS, FRAME, source, SOURCE, luma, LUMA, chroma, CHROMA);
 }
 
 static const char *channel_name(uint32_t channel)
@@ -132,19 +138,62 @@ static void explain(unsigned row, unsigned column)
            exact, stored, apart(exact, stored), left, apart(exact, left));
 }
 
-/* One sample of the source gets twice its level, which is over 1023. */
-static void double_sample(unsigned row, unsigned pixel, uint32_t channel)
+/* Doubles one sample of the source, which is then over 1023, and gives its new level. */
+static unsigned double_sample(unsigned row, unsigned pixel, uint32_t channel)
 {
     uint16_t *sample = &source[(row * WIDTH + pixel) * 3 + channel];
-    ayresokum_converted c;
-    *sample = (uint16_t)(2 * *sample);
-    c = convert();
-    printf("\nA gain change: %s of pixel %u in row %u is now %u, over 1023.\n", channel_name(channel), pixel, row, (unsigned)*sample);
+    return *sample = (uint16_t)(2 * *sample);
+}
+
+static void change_gain(unsigned row, unsigned pixel, uint32_t channel)
+{
+    const unsigned level = double_sample(row, pixel, channel);
+    const ayresokum_converted c = convert();
+    printf("\nA gain change: %s of pixel %u in row %u is now %u, over 1023.\n", channel_name(channel), pixel, row, level);
     printf("Convert: ");
     tell_refusal(c.refusal, c.sample);
     printf("Check: ");
     tell(check());
     printf("Both planes are %s.\n", are_planes_as_written() ? "as they were" : "changed");
+}
+
+/* Whether a frame's parts of the ring's planes are as they were before anything was converted. */
+static int is_unwritten(unsigned frame)
+{
+    return memcmp(ring_luma + frame * LUMA, unwritten, LUMA * sizeof *unwritten) == 0
+        && memcmp(ring_chroma + frame * CHROMA, unwritten, CHROMA * sizeof *unwritten) == 0;
+}
+
+static void tell_frame(unsigned frame)
+{
+    printf("  frame %u: ", frame);
+    if (is_unwritten(frame)) {
+        printf("as it was\n");
+        return;
+    }
+    printf("written; check: ");
+    tell(ayresokum_check(SETTINGS, FRAME, ring_source + frame * SOURCE, SOURCE,
+                         ring_luma + frame * LUMA, LUMA, ring_chroma + frame * CHROMA, CHROMA));
+}
+
+/* Converts a ring in which one frame has a sample that is too large. */
+static void convert_ring(unsigned spoiled)
+{
+    ayresokum_ring ring;
+    unsigned frame;
+    for (frame = 0; frame < RING; frame++) {
+        draw(frame);
+        if (frame == spoiled)
+            double_sample(11, 20, AYRESOKUM_GREEN);
+        memcpy(ring_source + frame * SOURCE, source, sizeof source);
+    }
+    ring = ayresokum_convert_ring(SETTINGS, FRAME, RING, ring_source, RING * SOURCE,
+                                  ring_luma, RING * LUMA, ring_chroma, RING * CHROMA);
+    printf("\nA ring of %d frames in one call, with the same sample doubled in frame %u alone.\n", RING, spoiled);
+    printf("Convert: %u frames written; frame %u ", (unsigned)ring.written, (unsigned)ring.written);
+    tell_refusal(ring.refusal, ring.sample);
+    for (frame = 0; frame < RING; frame++)
+        tell_frame(frame);
 }
 
 /* Draws and converts a frame; 0 for done. */
@@ -174,6 +223,7 @@ int main(void)
     printf("\n");
     name_rows();
     explain(6, 0);
-    double_sample(11, 20, AYRESOKUM_GREEN);
+    change_gain(11, 20, AYRESOKUM_GREEN);
+    convert_ring(2);
     return 0;
 }

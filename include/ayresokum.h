@@ -7,16 +7,19 @@
  * DESCRIPTION
  *   10 to 16 bit RGB, RGBA, BGRA or BGR to a luma plane and a chroma plane, 4:2:0, 4:2:2 or 4:4:4, after the 16-bit path of
  *   the Rust crate yuvutils-rs 0.8.3. Every function is proved to answer every input as the project's rules say: the first refusal
- *   that applies, with nothing touched, or the whole result.
+ *   that applies, with nothing touched, or the whole result; in a ring so for each frame in turn.
  *
  *   ayresokum_settle works out the nine integer weights of settings. ayresokum_convert settles, converts a frame and writes
- *   both planes. ayresokum_check settles and judges two planes from any converter against the source: the code of each visible sample
- *   may lie up to 1/2 + 153*m/(100*2^P) from its exact fraction, one half more for chroma of two or four pixels.
+ *   both planes. ayresokum_convert_ring does so for up to 64 frames in one call. ayresokum_check settles and judges two planes from any
+ *   converter against the source: the code of each visible sample may lie up to 1/2 + 153*m/(100*2^P) from its exact fraction, one
+ *   half more for chroma of two or four pixels.
  *
  *   Here P is the precision, and m = 2^depth - 1 is the largest sample and the largest code.
  *
  * REFUSALS
- *   Each call gives the first that applies; 0 is none. After a refusal no element of either plane has changed.
+ *   Each call gives the first that applies, in the order of this list; 0 is none. After a refusal no element of either plane has
+ *   changed, but for the frames that ayresokum_convert_ring wrote before the refused one.
+ *     18  a number of the settings names no case of its enumeration
  *      1  depth is not 10 to 16
  *      2  precision P is not 1 to 13
  *      3  custom pair: kr, kb and 1 - kr - kb are not all above 0; not-a-number counts as failing
@@ -25,13 +28,21 @@
  *      6  ayresokum_check only: the matrix is custom
  *      7  width or height is 0 or over 16384
  *      8  a stride is shorter than its visible row or over 65536
- *      9  a length is not exactly stride * rows
+ *     11  ayresokum_convert_ring only: count is not 1 to 64
+ *      9  a length is not exactly stride * rows, in a ring count * stride * rows
  *     10  a visible colour sample of the source is over m; comes with the place of the first one
- *     18  a number of the settings names no case of its enumeration; given before all others
  *
  *   The place of refusal 10 is the sample's row, pixel and channel. The first sample is found row by row, in a row pixel by pixel, and
  *   in a pixel red before green before blue, whatever the order of the channels in memory; alpha and padding never count.
  *   ayresokum_convert and ayresokum_check give the same place for the same source.
+ *
+ * RINGS
+ *   A ring is count frames with equal settings, sizes and strides that lie end to end in the source and in both planes. Frames count
+ *   from 0, and the part of frame i begins at element i * stride * rows of each buffer. The outcome of ayresokum_convert_ring is that
+ *   of converting the frames one after the other up to the first refused one, and for one frame it is that of ayresokum_convert.
+ *   Refusal 0: written is count, and every frame is written. Refusal 10 speaks of one frame, that of number written: all frames before
+ *   it are written, its own parts of both planes and those of all frames after it are as they were, and row and pixel of its
+ *   sample count within that frame. Every other refusal speaks of the whole call: written is 0, and nothing has changed.
  *
  * BUFFERS
  *   All lengths and strides count uint16_t elements. source: height rows of pixels, 3 or 4 samples each. luma: height rows of
@@ -48,6 +59,7 @@
  *   with, does. The shared library's name ends in it (libayresokum.so.AYRESOKUM_VERSION), so that a program linked with one version does
  *   not start with another. A program that loads the library by hand, or that may get header and library from different places,
  *   compares ayresokum_version() with AYRESOKUM_VERSION before any other call. Libraries before version 1 have no ayresokum_version.
+ *   A new function leaves the version: the first libraries of version 1 have no ayresokum_convert_ring, and the linker names it.
  */
 #ifndef AYRESOKUM_H
 #define AYRESOKUM_H
@@ -96,6 +108,7 @@ enum ayresokum_refusal {
     AYRESOKUM_STRIDE = 8,
     AYRESOKUM_LENGTH = 9,
     AYRESOKUM_TOO_LARGE = 10,
+    AYRESOKUM_COUNT = 11,
     AYRESOKUM_UNNAMED = 18
 };
 
@@ -155,6 +168,14 @@ typedef struct ayresokum_converted {
     ayresokum_sample sample;
 } ayresokum_converted;
 
+/* How many frames of a ring are written, all from the first on, and what ended it. Refusal 0: all are written. Refusal 10: sample is where
+ * the first one over m stands in frame number written, counted from 0. What does not apply is 0. */
+typedef struct ayresokum_ring {
+    uint32_t written;
+    uint32_t refusal;
+    ayresokum_sample sample;
+} ayresokum_ring;
+
 /* Refusal 0 and wrong 0: accepted. Wrong 1: place is that of the first wrong sample, where all of luma comes before chroma and each plane
  * goes row by row. Refusal 10: sample is where the first one over m stands. What does not apply is 0. */
 typedef struct ayresokum_checked {
@@ -167,16 +188,23 @@ typedef struct ayresokum_checked {
 /* The number of the library's interface: AYRESOKUM_VERSION of the header that belongs to it. */
 uint32_t ayresokum_version(void);
 
-/* The weights of settings, or a refusal: 1 to 5 or 18. */
+/* The weights of settings, or a refusal: 18 or 1 to 5. */
 ayresokum_settled ayresokum_settle(ayresokum_settings settings);
 
-/* Converts a frame: refusal 0 with both planes written, or a refusal (1 to 5, 7 to 10 or 18) with both as they were. */
+/* Converts a frame: refusal 0 with both planes written, or a refusal (18, 1 to 5, 7 to 10) with both as they were. */
 ayresokum_converted ayresokum_convert(ayresokum_settings settings, ayresokum_frame frame,
                                       const uint16_t *source, size_t source_length,
                                       uint16_t *luma, size_t luma_length,
                                       uint16_t *chroma, size_t chroma_length);
 
-/* Checks two planes, from any converter, against the source. Writes nothing. */
+/* Converts count frames that lie end to end, 1 to 64, in turn: refusal 0 with all of them written, or a refusal of the whole call (18,
+ * 1 to 5, 7, 8, 11, 9, in this order) with none written, or refusal 10 of frame number written with all frames before it written. */
+ayresokum_ring ayresokum_convert_ring(ayresokum_settings settings, ayresokum_frame frame, size_t count,
+                                      const uint16_t *source, size_t source_length,
+                                      uint16_t *luma, size_t luma_length,
+                                      uint16_t *chroma, size_t chroma_length);
+
+/* Checks two planes, from any converter, against the source: a verdict, or a refusal (18, 1 to 10). Writes nothing. */
 ayresokum_checked ayresokum_check(ayresokum_settings settings, ayresokum_frame frame,
                                   const uint16_t *source, size_t source_length,
                                   const uint16_t *luma, size_t luma_length,

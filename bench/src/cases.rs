@@ -12,6 +12,8 @@ const CHANNELS: [u32; 2] = [0, 1];
 const SUBSAMPLINGS: [u32; 3] = [0, 1, 2];
 /// Even widths: at odd ones and 4:2:0 the crate's planes differ by its known fault.
 const SIZES: [(usize, usize); 2] = [(1920, 1080), (4096, 2160)];
+/// Of each frame of a ring.
+const RING_SIZES: [(usize, usize); 2] = [(640, 480), (1920, 1080)];
 
 /// Width, height and padding of the frames that show the cost of a pixel.
 const SCALES: [(usize, usize, usize); 7] = [
@@ -45,8 +47,8 @@ fn settings(depth: u32, channels: u32, subsampling: u32) -> Settings {
 }
 
 /// Both sizes, without padding.
-fn sizes(settings: Settings) -> [Case; 2] {
-    SIZES.map(|(width, height)| Case {
+fn of_sizes(settings: Settings, sizes: [(usize, usize); 2]) -> [Case; 2] {
+    sizes.map(|(width, height)| Case {
         settings,
         width,
         height,
@@ -59,7 +61,7 @@ pub fn all() -> Vec<Case> {
     for depth in DEPTHS {
         for channels in CHANNELS {
             for subsampling in SUBSAMPLINGS {
-                cases.extend(sizes(settings(depth, channels, subsampling)));
+                cases.extend(of_sizes(settings(depth, channels, subsampling), SIZES));
             }
         }
     }
@@ -68,15 +70,23 @@ pub fn all() -> Vec<Case> {
 
 /// 10 bits, 4:2:0, since no sample is too large at 16 bits, and a refused frame has no chroma to write.
 pub fn refused() -> Vec<Case> {
-    let settings = |channels| settings(DEPTHS[0], channels, SUBSAMPLINGS[0]);
-    CHANNELS.map(settings).into_iter().flat_map(sizes).collect()
+    let of_channels = |channels| of_sizes(settings(DEPTHS[0], channels, SUBSAMPLINGS[0]), SIZES);
+    CHANNELS.into_iter().flat_map(of_channels).collect()
 }
 
 /// 10 bits, Rgb, 4:2:0.
+fn plain() -> Settings {
+    settings(DEPTHS[0], CHANNELS[0], SUBSAMPLINGS[0])
+}
+
+pub fn rings() -> [Case; 2] {
+    of_sizes(plain(), RING_SIZES)
+}
+
 pub fn scales() -> Vec<Case> {
     SCALES
         .map(|(width, height, padding)| Case {
-            settings: settings(DEPTHS[0], CHANNELS[0], SUBSAMPLINGS[0]),
+            settings: plain(),
             width,
             height,
             padding,

@@ -1,14 +1,17 @@
-//! Times the published loops of yuvutils-rs 0.8.3 and the proved library on the same frames, and prints a table in markdown.
+//! Times the published loops of yuvutils-rs 0.8.3 and the proved library on the same frames, and prints tables in markdown: those
+//! that the arguments name, or all.
 mod cases;
 mod clock;
 mod machine;
 mod refused;
+mod ring;
 mod rounds;
 mod scales;
 mod settle;
 mod stage;
 mod table;
 mod theirs;
+mod timed;
 
 // Shared with compare/beside; `raw`, the C interface, with the Rust crate.
 #[path = "../../compare/beside/src/frame.rs"]
@@ -29,10 +32,30 @@ mod raw;
 #[allow(dead_code)]
 mod settings;
 
-fn main() {
-    table::print();
-    scales::print();
-    refused::print();
-    settle::print_time();
+use std::process::ExitCode;
+
+/// What is measured and printed, by name.
+const PARTS: [(&str, fn()); 5] = [
+    ("table", table::print),
+    ("scales", scales::print),
+    ("refused", refused::print),
+    ("ring", ring::print),
+    ("settle", settle::print_time),
+];
+
+fn main() -> ExitCode {
+    let asked: Vec<String> = std::env::args().skip(1).collect();
+    let is_part = |name: &String| PARTS.iter().any(|(part, _)| part == name);
+    if let Some(name) = asked.iter().find(|name| !is_part(name)) {
+        let parts = PARTS.map(|(part, _)| part).join(", ");
+        eprintln!("{name} is none of {parts}");
+        return ExitCode::from(2);
+    }
+    for (part, print) in PARTS {
+        if asked.is_empty() || asked.iter().any(|name| name == part) {
+            print();
+        }
+    }
     machine::print_names();
+    ExitCode::SUCCESS
 }

@@ -2,9 +2,9 @@
 use crate::cases::{self, Case};
 use crate::rounds::{self, Times};
 use crate::settings::CHANNELS;
-use crate::stage::Candidate;
+use crate::stage::{Candidate, Stage};
 
-fn print_row(case: &Case, times: &Times) {
+fn print_row(case: &Case, times: &Times<Candidate>) {
     let refused = times.milliseconds(Candidate::Refused);
     let ours = times.milliseconds(Candidate::Ours);
     println!(
@@ -25,7 +25,7 @@ A frame at 10 bits, 4:2:0, that convert refuses by its last colour sample, and t
 |---|---|---|---|---|"
     );
     let cases = cases::refused();
-    let best = rounds::best_times(&cases, &[Candidate::Refused, Candidate::Ours]);
+    let best = rounds::best_times::<Stage>(&cases, &[Candidate::Refused, Candidate::Ours]);
     for (case, times) in cases.iter().zip(&best) {
         print_row(case, times);
     }

@@ -1,13 +1,13 @@
 //! The cost of a pixel, by the size of a frame and the padding of its rows.
 use crate::cases::{self, Case};
 use crate::rounds::{self, Times};
-use crate::stage::Candidate;
+use crate::stage::{Candidate, Stage};
 
-fn nanoseconds_of_a_pixel(case: &Case, times: &Times, candidate: Candidate) -> f64 {
+fn nanoseconds_of_a_pixel(case: &Case, times: &Times<Candidate>, candidate: Candidate) -> f64 {
     times.milliseconds(candidate) * 1e6 / (case.width * case.height) as f64
 }
 
-fn print_row(case: &Case, times: &Times) {
+fn print_row(case: &Case, times: &Times<Candidate>) {
     println!(
         "| {}×{} | {} | {:.2} | {:.2} |",
         case.width,
@@ -27,7 +27,7 @@ A pixel at 10 bits, Rgb, 4:2:0, by the size and by the elements of padding in ea
 |---|---|---|---|"
     );
     let cases = cases::scales();
-    let best = rounds::best_times(&cases, &[Candidate::Ours, Candidate::Check]);
+    let best = rounds::best_times::<Stage>(&cases, &[Candidate::Ours, Candidate::Check]);
     for (case, times) in cases.iter().zip(&best) {
         print_row(case, times);
     }

@@ -4,14 +4,12 @@ use crate::frame::{Frame, Planes};
 use crate::random::Random;
 use crate::raw::SampleNumbers;
 use crate::settings::Settings;
+use crate::timed::{Timed, UNWRITTEN};
 use crate::{ours, theirs};
 use published::Loops;
 use std::hint::black_box;
 
-/// What the planes hold before a converter writes them. At 10 bits no code in most-significant packing is stored as this word.
-const UNWRITTEN: u16 = 1;
-
-#[derive(Clone, Copy)]
+#[derive(Clone, Copy, PartialEq)]
 pub enum Candidate {
     Copy,
     Crate,
@@ -20,14 +18,6 @@ pub enum Candidate {
     /// Ours, of the same frame with its last colour sample too large.
     Refused,
 }
-
-pub const CANDIDATES: [Candidate; 5] = [
-    Candidate::Copy,
-    Candidate::Crate,
-    Candidate::Ours,
-    Candidate::Check,
-    Candidate::Refused,
-];
 
 pub struct Stage {
     settings: Settings,
@@ -40,16 +30,18 @@ pub struct Stage {
     copied_to: Vec<u16>,
 }
 
-fn random_samples(settings: &Settings, length: usize) -> Vec<u16> {
+pub fn random_samples(settings: &Settings, length: usize) -> Vec<u16> {
     let mut random = Random::new(1);
     let m = settings.m();
     (0..length).map(|_| random.word() & m).collect()
 }
 
-impl Stage {
+impl Timed for Stage {
+    type Candidate = Candidate;
+
     /// Before the first round every buffer is written, both converters are seen to write the same planes, and the check to accept them.
     /// Padded rows are left out of the comparison, since the crate takes no chroma plane that has padding.
-    pub fn new(case: &Case) -> Stage {
+    fn new(case: &Case) -> Stage {
         let settings = case.settings;
         let frame = Frame::padded(&settings, case.width, case.height, [case.padding; 3]);
         let source = random_samples(&settings, frame.source_length());
@@ -64,28 +56,20 @@ impl Stage {
             copied_from: vec![2; together],
             copied_to: vec![3; together],
         };
-        if case.padding == 0 {
-            stage.assert_same_planes();
-        }
+        assert!(
+            case.padding > 0 || stage.write_the_same(Candidate::Crate, Candidate::Ours),
+            "{settings} {frame}: the planes differ"
+        );
         stage.run(Candidate::Ours);
         stage.run(Candidate::Check);
         stage
     }
 
-    fn assert_same_planes(&mut self) {
-        self.run(Candidate::Crate);
-        let unwritten = Planes::filled(self.planes.luma.len(), self.planes.chroma.len(), UNWRITTEN);
-        let crates = std::mem::replace(&mut self.planes, unwritten);
-        self.run(Candidate::Ours);
-        assert!(
-            crates == self.planes,
-            "{} {}: the planes differ",
-            self.settings,
-            self.frame
-        );
+    fn planes(&mut self) -> &mut Planes {
+        &mut self.planes
     }
 
-    pub fn run(&mut self, candidate: Candidate) {
+    fn run(&mut self, candidate: Candidate) {
         match candidate {
             Candidate::Copy => self.copy(),
             Candidate::Crate => self.convert_by_crate(),
@@ -94,7 +78,9 @@ impl Stage {
             Candidate::Refused => self.refuse(),
         }
     }
+}
 
+impl Stage {
     fn copy(&mut self) {
         self.copied_to.copy_from_slice(black_box(&self.copied_from));
         black_box(&self.copied_to);

@@ -2,7 +2,7 @@
 use crate::cases::{self, Case};
 use crate::rounds::{self, Times, LEAST_ROUNDS, PASSES};
 use crate::settings::{CHANNELS, SUBSAMPLINGS};
-use crate::stage::Candidate;
+use crate::stage::{Candidate, Stage};
 
 const TIMED: [Candidate; 4] = [
     Candidate::Copy,
@@ -15,7 +15,7 @@ const HEAD: &str = "\
 | depth | channels | subsampling | size | crate, ms | ours, ms | ours/crate | check, ms | check/crate | check/ours | memcpy, ms |
 |---|---|---|---|---|---|---|---|---|---|---|";
 
-fn print_row(case: &Case, times: &Times) {
+fn print_row(case: &Case, times: &Times<Candidate>) {
     let theirs = times.milliseconds(Candidate::Crate);
     let ours = times.milliseconds(Candidate::Ours);
     let check = times.milliseconds(Candidate::Check);
@@ -53,7 +53,7 @@ padding, buffers touched before. Before the rounds both converters wrote the sam
 
 pub fn print() {
     let cases = cases::all();
-    let best = rounds::best_times(&cases, &TIMED);
+    let best = rounds::best_times::<Stage>(&cases, &TIMED);
     println!("{HEAD}");
     for (case, times) in cases.iter().zip(&best) {
         print_row(case, times);

@@ -44,7 +44,8 @@ impl Frame {
         }
     }
 
-    /// Stride × rows of each buffer. No other lengths are taken.
+    /// Stride × rows of each buffer. No other lengths are taken, and by [`convert_ring`](crate::convert_ring()) none but the
+    /// count of frames times these.
     pub const fn lengths(&self, settings: &Settings) -> Lengths {
         let chroma_rows = match settings.subsampling {
             YuvChromaSubsampling::Yuv420 => self.height.div_ceil(2),

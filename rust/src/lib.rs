@@ -1,10 +1,12 @@
 //! A proved converter and checker for camera frames: 10 to 16 bit RGB to bi-planar YUV, 4:4:4, 4:2:2 and 4:2:0.
 //!
 //! It carries over the 16-bit path of yuvutils-rs 0.8.3. The work is done by a library written in Rattle, a language in
-//! which every function is proved to meet its contract. This crate is a thin layer over it, with three services:
+//! which every function is proved to meet its contract. This crate is a thin layer over it, with four services:
 //!
 //! - [`settle`](settle()): the nine integer weights of some settings, or a refusal;
 //! - [`convert`](convert()): both planes of a frame written, or a refusal with both untouched;
+//! - [`convert_ring`](convert_ring()): up to 64 frames that lie end to end converted in one call, or how many were written and
+//!   the refusal that ended it;
 //! - [`check`](check()): a recorded frame accepted, or its first wrong sample named, or a refusal.
 //!
 //! # A first call
@@ -148,11 +150,12 @@
 //! variable `AYRESOKUM_LIB` names another folder, from the root or from this crate's folder.
 //!
 //! The library's interface has a number. With a library of another number than this crate was written for every call panics and
-//! names both; a library from before there were numbers cannot be linked, since it has no `ayresokum_version`.
+//! names both; a library from before there were numbers cannot be linked, since it has no `ayresokum_version`. A function that
+//! is new leaves the number, and a library that lacks it cannot be linked where it is called: the linker names it.
 //!
 //! # What is proved
 //!
-//! - For every input, each of the three functions gives the answer that the rules say, and no other: the refusals in their
+//! - For every input, each of the four functions gives the answer that the rules say, and no other: the refusals in their
 //!   order, the weights, every element of both planes, the first wrong sample, the first sample that is too large. The rules
 //!   stand as definitions in the repository's crates/rules/specs.
 //! - Refusal 4 is never given.
@@ -162,7 +165,7 @@
 //!
 //! - The back end of the compiler that turns the proved code into machine code.
 //! - This crate: the numbers in place of enumerations, pointers and lengths in place of slices, answers turned into
-//!   [`Result`]. It is tested against the rules written afresh, by more than three hundred thousand random calls.
+//!   [`Result`]. It is tested against the rules written afresh, by more than four hundred thousand random calls.
 //! - That the recorded source is the one the camera saw.
 #![deny(missing_docs)]
 #![deny(unsafe_code)]
@@ -177,6 +180,7 @@ mod numbers;
 #[allow(unsafe_code)]
 mod raw;
 mod refusal;
+mod ring;
 mod settings;
 mod settle;
 mod source_place;
@@ -189,6 +193,7 @@ pub use image::YuvBiPlanarImageMut;
 pub use names::*;
 pub use raw::Frame;
 pub use refusal::Refusal;
+pub use ring::{convert_ring, RingEnded};
 pub use settings::{
     Settings, YuvBytesPacking, YuvChromaSubsampling, YuvEndianness, YuvNVOrder, YuvRange,
     YuvSourceChannels, YuvStandardMatrix,

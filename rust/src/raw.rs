@@ -75,6 +75,16 @@ pub struct ConvertedNumbers {
     pub sample: SampleNumbers,
 }
 
+/// How many frames of a ring are written, all from the first on; the number of the refusal that ended it, or 0; and with
+/// refusal 10 the first sample that is too large, in frame number `written`. What does not apply is 0.
+#[repr(C)]
+#[derive(Debug, Clone, Copy)]
+pub struct RingNumbers {
+    pub written: u32,
+    pub refusal: u32,
+    pub sample: SampleNumbers,
+}
+
 /// The refusal's number, or 0; 1 where a sample is wrong, and the place of the first wrong one; and with refusal 10 the first
 /// sample that is too large. What does not apply is 0.
 #[repr(C)]
@@ -101,6 +111,18 @@ extern "C" {
         chroma: *mut u16,
         chroma_length: usize,
     ) -> ConvertedNumbers;
+
+    fn ayresokum_convert_ring(
+        settings: SettingsNumbers,
+        frame: Frame,
+        count: usize,
+        source: *const u16,
+        source_length: usize,
+        luma: *mut u16,
+        luma_length: usize,
+        chroma: *mut u16,
+        chroma_length: usize,
+    ) -> RingNumbers;
 
     fn ayresokum_check(
         settings: SettingsNumbers,
@@ -147,6 +169,31 @@ pub fn convert(
         ayresokum_convert(
             settings,
             frame,
+            source.as_ptr(),
+            source.len(),
+            luma.as_mut_ptr(),
+            luma.len(),
+            chroma.as_mut_ptr(),
+            chroma.len(),
+        )
+    }
+}
+
+pub fn convert_ring(
+    settings: SettingsNumbers,
+    frame: Frame,
+    count: usize,
+    source: &[u16],
+    luma: &mut [u16],
+    chroma: &mut [u16],
+) -> RingNumbers {
+    assert_linked_version();
+    // SAFETY: as for `convert`. The library takes no more frames than the lengths hold, whatever the count is.
+    unsafe {
+        ayresokum_convert_ring(
+            settings,
+            frame,
+            count,
             source.as_ptr(),
             source.len(),
             luma.as_mut_ptr(),

@@ -4,9 +4,11 @@ use crate::SourcePlace;
 use std::error::Error;
 use std::fmt;
 
-/// The first reason, in the order of the numbers, why a call was refused.
+/// The first reason why a call was refused.
 ///
-/// [`Refusal::Unnamed`] comes before all others. A refused call has touched no buffer.
+/// They apply in the order of their numbers, but [`Refusal::Unnamed`] comes before all others, and [`Refusal::Count`] between
+/// [`Refusal::Stride`] and [`Refusal::Length`]. A refused call has touched no buffer, but for the frames that
+/// [`convert_ring`](crate::convert_ring()) wrote before the refused one.
 #[derive(Debug, Clone, Copy, PartialEq, Eq, Hash)]
 pub enum Refusal {
     /// The depth is not 10 to 16.
@@ -25,18 +27,20 @@ pub enum Refusal {
     Size,
     /// A stride is too short or over 65,536.
     Stride,
-    /// A buffer has not the exact length.
+    /// A buffer has not the exact length: stride × rows, in a ring count × stride × rows.
     Length,
     /// A visible colour sample of the source is above m. This is where the first one stands: row by row, in a row pixel by
     /// pixel, in a pixel red before green before blue, whatever the channel layout.
     TooLarge(SourcePlace),
+    /// The count of a ring's frames is not 1 to 64.
+    Count,
     /// A number names no case of its enumeration. The types of this crate rule it out.
     Unnamed,
 }
 
 impl Refusal {
     /// The refusals that carry nothing.
-    const PLAIN: [Refusal; 10] = [
+    const PLAIN: [Refusal; 11] = [
         Refusal::Depth,
         Refusal::Precision,
         Refusal::CustomPair,
@@ -46,6 +50,7 @@ impl Refusal {
         Refusal::Size,
         Refusal::Stride,
         Refusal::Length,
+        Refusal::Count,
         Refusal::Unnamed,
     ];
 
@@ -62,6 +67,7 @@ impl Refusal {
             Refusal::Stride => 8,
             Refusal::Length => 9,
             Refusal::TooLarge(_) => 10,
+            Refusal::Count => 11,
             Refusal::Unnamed => 18,
         }
     }
@@ -74,7 +80,7 @@ impl Refusal {
         }
     }
 
-    /// The same of convert's and check's answers, in which refusal 10 comes with a sample.
+    /// The same of the other answers, in which refusal 10 comes with a sample.
     pub(crate) fn answered_with(number: u32, sample: SampleNumbers) -> Result<(), Refusal> {
         match number {
             10 => Err(Refusal::TooLarge(SourcePlace::of(sample))),
@@ -104,8 +110,11 @@ impl Refusal {
             Refusal::CustomUnchecked => "check only: the matrix is custom",
             Refusal::Size => "width or height is 0 or over 16,384",
             Refusal::Stride => "a stride is shorter than its visible row or over 65,536",
-            Refusal::Length => "a buffer's length is not exactly stride × rows",
+            Refusal::Length => {
+                "a buffer's length is not exactly stride × rows, in a ring count × stride × rows"
+            }
             Refusal::TooLarge(_) => "a visible colour sample of the source exceeds m",
+            Refusal::Count => "the count of frames is not 1 to 64",
             Refusal::Unnamed => "a number names no case of its enumeration",
         }
     }

@@ -1,6 +1,6 @@
 //! Refusals as numbers, as text and as errors.
 use ayresokum::{
-    settle, Channel, Refusal, Settings, SourcePlace, YuvChromaSubsampling, YuvRange,
+    settle, Channel, Refusal, RingEnded, Settings, SourcePlace, YuvChromaSubsampling, YuvRange,
     YuvSourceChannels, YuvStandardMatrix,
 };
 use std::error::Error;
@@ -12,7 +12,7 @@ const PLACE: SourcePlace = SourcePlace {
 };
 
 /// Every refusal with its number and its text.
-const ALL: [(Refusal, u32, &str); 11] = [
+const ALL: [(Refusal, u32, &str); 12] = [
     (Refusal::Depth, 1, "refusal 1: depth is not 10 to 16"),
     (Refusal::Precision, 2, "refusal 2: P is not 1 to 13"),
     (
@@ -48,12 +48,17 @@ const ALL: [(Refusal, u32, &str); 11] = [
     (
         Refusal::Length,
         9,
-        "refusal 9: a buffer's length is not exactly stride × rows",
+        "refusal 9: a buffer's length is not exactly stride × rows, in a ring count × stride × rows",
     ),
     (
         Refusal::TooLarge(PLACE),
         10,
         "refusal 10: a visible colour sample of the source exceeds m: row 3, pixel 17, green",
+    ),
+    (
+        Refusal::Count,
+        11,
+        "refusal 11: the count of frames is not 1 to 64",
     ),
     (
         Refusal::Unnamed,
@@ -78,6 +83,27 @@ fn places() {
     assert_eq!(of(Channel::Blue), "row 3, pixel 17, blue");
 }
 
+#[test]
+fn rings() {
+    let told = |written, refusal| RingEnded { written, refusal }.to_string();
+    let too_large =
+        "refusal 10: a visible colour sample of the source exceeds m: row 3, pixel 17, green";
+    for (written, before) in [
+        (0, "no frame was written; frame 0: "),
+        (1, "1 frame was written; frame 1: "),
+        (3, "3 frames were written; frame 3: "),
+    ] {
+        assert_eq!(
+            told(written, Refusal::TooLarge(PLACE)),
+            format!("{before}{too_large}")
+        );
+    }
+    assert_eq!(
+        told(0, Refusal::Count),
+        "no frame was written: refusal 11: the count of frames is not 1 to 64"
+    );
+}
+
 fn settled(depth: u32) -> Result<i32, Box<dyn Error>> {
     let settings = Settings::new(
         depth,
@@ -96,4 +122,16 @@ fn as_errors() {
     assert_eq!(error.to_string(), ALL[0].2);
     assert!(error.source().is_none());
     assert_eq!(error.downcast_ref(), Some(&Refusal::Depth));
+}
+
+/// Its own text has the refusal's, so that no other error stands behind it.
+#[test]
+fn ring_as_error() {
+    let ended = RingEnded {
+        written: 2,
+        refusal: Refusal::TooLarge(PLACE),
+    };
+    let error: Box<dyn Error> = ended.into();
+    assert!(error.source().is_none());
+    assert_eq!(error.downcast_ref(), Some(&ended));
 }

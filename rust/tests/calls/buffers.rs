@@ -5,10 +5,16 @@ use crate::reference::{pixel_elements, Frame, Settings};
 const LONGEST: u128 = 140_000;
 const PIXELS: usize = 40_000;
 
-/// The exact length of each buffer, or a short one where the exact one is too long for a test.
-pub fn lengths(random: &mut Random, settings: &Settings, frame: &Frame) -> [usize; 3] {
-    frame.lengths(settings).map(|length| match length {
-        0..=LONGEST => length as usize,
+/// The exact length of each buffer for so many frames, or a short one where the exact one is too long for a test.
+pub fn lengths(
+    random: &mut Random,
+    settings: &Settings,
+    frame: &Frame,
+    frames: usize,
+) -> [usize; 3] {
+    let all = |length: u128| length.saturating_mul(frames as u128);
+    frame.lengths(settings).map(|length| match all(length) {
+        length @ 0..=LONGEST => length as usize,
         _ => random.below(20),
     })
 }

@@ -1,6 +1,7 @@
 //! A call: settings, a frame and its buffers, drawn at random.
+use super::damage::{self, Damage};
 use super::random::Random;
-use super::{buffers, excess, frames, settings};
+use super::{buffers, excess};
 use crate::reference::{self, Frame, Refusal, Settings};
 
 #[derive(Clone)]
@@ -12,44 +13,21 @@ pub struct Call {
     pub chroma: Vec<u16>,
 }
 
-#[derive(Clone, Copy, PartialEq)]
-enum Damage {
-    Settings,
-    Size,
-    Stride,
-    Length,
-    Sample,
-}
-
-/// Half of the calls are sound. The others have one to three damages, so that refusals meet and their order shows.
-fn damages(random: &mut Random) -> Vec<Damage> {
-    use Damage::*;
-    let count = match random.below(10) {
-        0..=4 => 0,
-        5..=7 => 1,
-        8 => 2,
-        _ => 3,
-    };
-    (0..count)
-        .map(|_| random.pick(&[Settings, Size, Stride, Length, Sample]))
-        .collect()
-}
+const DAMAGES: [Damage; 5] = [
+    Damage::Settings,
+    Damage::Size,
+    Damage::Stride,
+    Damage::Length,
+    Damage::Sample,
+];
 
 impl Call {
     /// Each part is drawn to fit the parts before it, damaged or not, so that one damage does not bring another.
     pub fn draw(random: &mut Random) -> Call {
-        let damages = damages(random);
+        let damages = damage::draw(random, &DAMAGES);
         let has = |damage| damages.contains(&damage);
-        let mut settings = settings::usable(random);
-        for _ in damages.iter().filter(|&&d| d == Damage::Settings) {
-            settings::spoil(random, &mut settings);
-        }
-        let mut sizes = frames::sizes(random);
-        if has(Damage::Size) {
-            frames::spoil_size(random, &mut sizes);
-        }
-        let frame = frames::laid_out(random, &settings, sizes, has(Damage::Stride));
-        let mut lengths = buffers::lengths(random, &settings, &frame);
+        let (settings, frame) = damage::layout(random, &damages);
+        let mut lengths = buffers::lengths(random, &settings, &frame, 1);
         if has(Damage::Length) {
             buffers::spoil_length(random, &settings, &frame, &mut lengths);
         }
@@ -89,6 +67,13 @@ impl Call {
             &self.luma,
             &self.chroma,
         )
+    }
+
+    /// Asserts that every element of every buffer is the expected one.
+    pub fn assert_buffers(&self, expected: &Call, told: impl Fn() -> String) {
+        assert!(self.source == expected.source, "source: {}", told());
+        assert!(self.luma == expected.luma, "luma: {}", told());
+        assert!(self.chroma == expected.chroma, "chroma: {}", told());
     }
 
     pub fn elements(&self) -> usize {

@@ -13,17 +13,7 @@ pub fn convert_as_expected(by: By, call: &Call) -> (Result<(), Refusal>, Call) {
     let mut got = call.clone();
     let answer = expected.convert();
     assert_eq!(convert(by, &mut got), answer, "{by:?} {}", call.told());
-    assert!(
-        got.source == call.source,
-        "source changed: {by:?} {}",
-        call.told()
-    );
-    assert!(got.luma == expected.luma, "luma: {by:?} {}", call.told());
-    assert!(
-        got.chroma == expected.chroma,
-        "chroma: {by:?} {}",
-        call.told()
-    );
+    got.assert_buffers(&expected, || format!("{by:?} {}", call.told()));
     (answer, got)
 }
 

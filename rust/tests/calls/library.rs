@@ -1,8 +1,9 @@
 //! Calls of the library, by the crate's functions or by the raw ones, with the answers in the form that the reference gives them.
 use super::call::Call;
 use super::random::Random;
-use crate::raw::{self, PlaceNumbers, SampleNumbers};
-use crate::reference::{Frame, Refusal, Sample, Settings, SourcePlace};
+use super::ring_call::RingCall;
+use crate::raw::{self, PlaceNumbers, RingNumbers, SampleNumbers};
+use crate::reference::{Frame, Refusal, RingEnded, Sample, Settings, SourcePlace};
 use ayresokum::{
     Channel, Checked, Plane, Weights, YuvBytesPacking, YuvChromaSubsampling, YuvEndianness,
     YuvNVOrder, YuvRange, YuvSourceChannels, YuvStandardMatrix,
@@ -145,6 +146,41 @@ pub fn convert(by: By, call: &mut Call) -> Result<(), Refusal> {
             let converted = raw::convert(settings, frame, source, luma, chroma);
             raw_answer(converted.refusal, converted.sample)
         }
+    }
+}
+
+fn ring_ended(ended: ayresokum::RingEnded) -> RingEnded {
+    RingEnded {
+        written: ended.written,
+        refusal: refusal(ended.refusal),
+    }
+}
+
+/// What a ring's numbers mean; without a refusal all frames are written.
+fn raw_ring(count: usize, ring: RingNumbers) -> Result<(), RingEnded> {
+    let written = ring.written as usize;
+    assert!(
+        ring.refusal != 0 || written == count,
+        "{written} of {count} frames and no refusal"
+    );
+    let ended = |refusal| RingEnded { written, refusal };
+    raw_answer(ring.refusal, ring.sample).map_err(ended)
+}
+
+pub fn convert_ring(by: By, ring: &mut RingCall) -> Result<(), RingEnded> {
+    let RingCall { count, call } = ring;
+    let (settings, frame) = (call.settings, call.frame);
+    let (source, luma, chroma) = (&call.source, &mut call.luma, &mut call.chroma);
+    match by {
+        By::Crate => {
+            let (settings, frame) = (meant(&settings), meant_frame(&frame));
+            let done = ayresokum::convert_ring(&settings, &frame, *count, source, luma, chroma);
+            done.map_err(ring_ended)
+        }
+        By::Raw => raw_ring(
+            *count,
+            raw::convert_ring(settings, frame, *count, source, luma, chroma),
+        ),
     }
 }
 

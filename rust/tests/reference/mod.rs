@@ -1,5 +1,5 @@
-//! Document 01 with request One of document 02, written afresh for the tests alone. It shares nothing with the crate but
-//! the records of src/raw.rs, and knows every enumeration by its numbers.
+//! Document 01 with requests One and Two of document 02, written afresh for the tests alone. It shares nothing with the crate
+//! but the records of src/raw.rs, and knows every enumeration by its numbers.
 //!
 //! Weights are worked out in f32 step by step, everything else in whole numbers of 128 bits.
 mod blocks;
@@ -10,6 +10,7 @@ mod frame;
 mod matrices;
 mod places;
 mod refusals;
+mod ring;
 mod sample;
 mod settings;
 mod settle;
@@ -22,5 +23,6 @@ pub use convert::convert;
 pub use fractions::{reach, within};
 pub use frame::pixel_elements;
 pub use refusals::{Refusal, SourcePlace};
+pub use ring::{convert_ring, RingEnded};
 pub use settle::settle;
 pub use storage::{is_formed, word};

@@ -1,4 +1,4 @@
-//! What a refusal is, and refusals 7 to 10, which convert and check share.
+//! What a refusal is, and refusals 7 to 10, which convert and check share, and of which a ring asks 7 and 8 once.
 use super::places::pixel;
 use super::{Frame, Settings};
 
@@ -53,12 +53,8 @@ fn first_too_large(settings: &Settings, frame: &Frame, source: &[u16]) -> Option
     None
 }
 
-/// The first of refusals 7 to 10 that applies, for settings that settle accepts. The buffers are source, luma and chroma.
-pub fn frame_refusal(
-    settings: &Settings,
-    frame: &Frame,
-    buffers: [&[u16]; 3],
-) -> Result<(), Refusal> {
+/// The first of refusals 7 and 8 that applies, for settings that settle accepts.
+pub fn layout_refusal(settings: &Settings, frame: &Frame) -> Result<(), Refusal> {
     if size_off(frame.width) || size_off(frame.height) {
         return Err(7.into());
     }
@@ -67,6 +63,16 @@ pub fn frame_refusal(
     if (0..3).any(|i| stride_off(strides[i], visible[i])) {
         return Err(8.into());
     }
+    Ok(())
+}
+
+/// The first of refusals 7 to 10 that applies, for settings that settle accepts. The buffers are source, luma and chroma.
+pub fn frame_refusal(
+    settings: &Settings,
+    frame: &Frame,
+    buffers: [&[u16]; 3],
+) -> Result<(), Refusal> {
+    layout_refusal(settings, frame)?;
     if buffers.map(|b| b.len() as u128) != frame.lengths(settings) {
         return Err(9.into());
     }
