@@ -4,14 +4,39 @@
 # make outputs   what the programs have to print, worked out afresh from document 01 (compare/*.py)
 # make test      the examples, the declarations of the exported functions held against each other, the calls from Python, the programs'
 #                outputs, and the tests of the Rust crate where cargo is there
-# All but outputs need the Rattle kit (rt) and a C compiler.
+# make x86-64    on a machine of another kind, what builds and runs x86-64 programs, from Debian's packages; as root
+# All but outputs and x86-64 need the Rattle kit (rt) and a C compiler.
 CC ?= cc
 CXX ?= c++
+PYTHON = python3
+# The library is x86-64 code. On a machine of another kind its callers are built by cross compilers and run by an emulator, with the C library,
+# Python and Rust's library for x86-64 from the folder X86_64.
+ifneq ($(shell uname -m),x86_64)
+X86_64 ?= $(or $(XDG_CACHE_HOME),$(HOME)/.cache)/ayresokum/x86-64
+CC = x86_64-linux-gnu-gcc
+CXX = x86_64-linux-gnu-g++
+RUN = qemu-x86_64 -L $(X86_64)
+PYTHON = $(RUN) $(X86_64)/usr/bin/python3
+export RUSTC = /usr/bin/rustc
+export RUSTDOC = /usr/bin/rustdoc
+export RUSTFLAGS = --sysroot=$(X86_64)/usr
+export RUSTDOCFLAGS = $(RUSTFLAGS)
+export CARGO_BUILD_TARGET = x86_64-unknown-linux-gnu
+export CARGO_TARGET_X86_64_UNKNOWN_LINUX_GNU_LINKER = $(CC)
+export CARGO_TARGET_X86_64_UNKNOWN_LINUX_GNU_RUNNER = $(RUN)
+endif
 STRICT = -Wall -Wextra -pedantic -Werror
 RULES = $(shell find crates -name '*.rt' -o -name '*.antt') crates.txt
 SHARED := libayresokum.so.$(shell awk '/define AYRESOKUM_VERSION/ { print $$3 }' include/ayresokum.h)
 
-.PHONY: lib demo examples outputs output-settings output-frames output-checks output-ring output-exports calls rust test clean
+.PHONY: x86-64 cargo-variables lib demo examples outputs output-settings output-frames output-checks output-ring output-exports calls rust test clean
+
+x86-64:
+	.ci/x86-64 "$(X86_64)"
+
+# What cargo is told above, as lines for a shell; on x86-64 none.
+cargo-variables:
+	@env | sed -n "s/^\(RUST[A-Z]*\|CARGO_BUILD_TARGET\|CARGO_TARGET_X86_64_[A-Z_]*\)=\(.*\)/export \1='\2'/p"
 
 lib: build/libayresokum.a build/libayresokum.so
 
@@ -34,13 +59,13 @@ build/%: examples/%.c include/ayresokum.h build/libayresokum.a
 	$(CC) -std=c99 -O2 $(STRICT) -Iinclude -o $@ $< build/libayresokum.a
 
 demo: build/demo
-	@build/demo
+	@$(RUN) build/demo
 
 examples: build/demo build/whole_frame
 	$(CC) -std=c99 $(STRICT) -fsyntax-only -x c include/ayresokum.h
 	$(CXX) -std=c++17 $(STRICT) -fsyntax-only -x c++ include/ayresokum.h
-	build/whole_frame | cmp - examples/whole_frame.txt
-	build/demo | cmp - examples/demo.txt
+	$(RUN) build/whole_frame | cmp - examples/whole_frame.txt
+	$(RUN) build/demo | cmp - examples/demo.txt
 
 outputs: output-settings output-frames output-checks output-ring output-exports
 
@@ -61,7 +86,7 @@ output-exports:
 
 calls: build/libayresokum.so build/other_version.so build/no_version.so build/version_alone.so
 	python3 compare/boundary.py
-	python3 compare/calls.py
+	$(PYTHON) compare/calls.py
 
 rust: build/libayresokum.a build/libayresokum.so
 	! command -v cargo > /dev/null || (cd rust && AYRESOKUM_LIB=$(CURDIR)/build cargo test --offline --release)
