@@ -21,6 +21,10 @@ use Rattle.answer_numbers.specs.declared.ConvertedNumbers.{ConvertedNumb
 use Rattle.answer_numbers.specs.declared.RingNumbers.{RingNumbers}
 use Rattle.answer_numbers.specs.declared.CheckedNumbers.{CheckedNumbers}
 
+-- the number of the refusal where a number names no case of its enumeration
+abbrev pub unnamed : ℕ
+unnamed = 18
+
 -- on a refusal the nine weights are 0
 abbrev pub noWeights : Weights
 noWeights = record {

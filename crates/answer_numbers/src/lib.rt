@@ -1,6 +1,6 @@
 // The answers of the services as numbers, for callers from other languages. What does not apply is 0.
 ghost use mathlib.Core.Path.{_≡_};
-ghost use Rattle.answer_numbers.specs.AnswerNumbers.{weightless, settledNumbers, noSample, sampleOf, refusedFor, convertedNumbers, ringTold, ringNumbers, noPlace, told, checkedNumbers};
+ghost use Rattle.answer_numbers.specs.AnswerNumbers.{unnamed, weightless, settledNumbers, noSample, sampleOf, refusedFor, convertedNumbers, ringTold, ringNumbers, noPlace, told, checkedNumbers};
 use rules::Checked;
 use rules::Converted;
 use rules::Place;
@@ -42,7 +42,10 @@ pub struct CheckedNumbers {
     pub sample: SourcePlace,
 }
 
-pub fn weightless(refusal: u32) -> SettledNumbers
+// The refusal where a number of the settings names no case of its enumeration.
+const UNNAMED: u32 = 18;
+
+fn weightless(refusal: u32) -> SettledNumbers
     ensures { λ r. ⌜ r ≡ weightless refusal ⌝ }
 {
     let weights = Weights {
@@ -71,7 +74,13 @@ pub fn settled_numbers(answer: Settled) -> SettledNumbers
     }
 }
 
-pub fn no_sample() -> SourcePlace
+pub fn settled_unnamed() -> SettledNumbers
+    ensures { λ r. ⌜ r ≡ weightless unnamed ⌝ }
+{
+    weightless(UNNAMED)
+}
+
+fn no_sample() -> SourcePlace
     ensures { λ r. ⌜ r ≡ noSample ⌝ }
 {
     SourcePlace {
@@ -100,7 +109,7 @@ fn sample_of(r: Refusal) -> SourcePlace
     }
 }
 
-pub fn refused_for(refusal: u32, sample: SourcePlace) -> ConvertedNumbers
+fn refused_for(refusal: u32, sample: SourcePlace) -> ConvertedNumbers
     ensures { λ r. ⌜ r ≡ refusedFor refusal sample ⌝ }
 {
     ConvertedNumbers { refusal, sample }
@@ -115,7 +124,13 @@ pub fn converted_numbers(answer: Converted) -> ConvertedNumbers
     }
 }
 
-pub fn ring_told(written: u32, refusal: u32, sample: SourcePlace) -> RingNumbers
+pub fn converted_unnamed() -> ConvertedNumbers
+    ensures { λ r. ⌜ r ≡ refusedFor unnamed noSample ⌝ }
+{
+    refused_for(UNNAMED, no_sample())
+}
+
+fn ring_told(written: u32, refusal: u32, sample: SourcePlace) -> RingNumbers
     ensures { λ r. ⌜ r ≡ ringTold written refusal sample ⌝ }
 {
     RingNumbers {
@@ -135,7 +150,13 @@ pub fn ring_numbers(answer: Ringed) -> RingNumbers
     }
 }
 
-pub fn no_place() -> Place
+pub fn ring_unnamed() -> RingNumbers
+    ensures { λ r. ⌜ r ≡ ringTold 0 unnamed noSample ⌝ }
+{
+    ring_told(0, UNNAMED, no_sample())
+}
+
+fn no_place() -> Place
     ensures { λ r. ⌜ r ≡ noPlace ⌝ }
 {
     Place {
@@ -145,7 +166,7 @@ pub fn no_place() -> Place
     }
 }
 
-pub fn told(refusal: u32, wrong: u32, place: Place, sample: SourcePlace) -> CheckedNumbers
+fn told(refusal: u32, wrong: u32, place: Place, sample: SourcePlace) -> CheckedNumbers
     ensures { λ r. ⌜ r ≡ told refusal wrong place sample ⌝ }
 {
     CheckedNumbers {
@@ -164,4 +185,10 @@ pub fn checked_numbers(answer: Checked) -> CheckedNumbers
         Checked::Wrong(p) => told(0, 1, p, no_sample()),
         Checked::Refused(r) => told(r.number(), 0, no_place(), sample_of(r)),
     }
+}
+
+pub fn checked_unnamed() -> CheckedNumbers
+    ensures { λ r. ⌜ r ≡ told unnamed 0 noPlace noSample ⌝ }
+{
+    told(UNNAMED, 0, no_place(), no_sample())
 }

@@ -20,8 +20,8 @@ use Rattle.answer_numbers.specs.declared.SettledNumbers.{SettledNumbers}
 use Rattle.answer_numbers.specs.declared.ConvertedNumbers.{ConvertedNumbers}
 use Rattle.answer_numbers.specs.declared.RingNumbers.{RingNumbers}
 use Rattle.answer_numbers.specs.declared.CheckedNumbers.{CheckedNumbers}
-use Rattle.answer_numbers.specs.AnswerNumbers.{weightless, settledNumbers, noSample, refusedFor, convertedNumbers, ringTold, ringNumbers, noPlace, told, checkedNumbers}
-use Rattle.ayresokum.specs.Calls.{unnamed, Told, SettleCall, ConvertCall, lumaCall, chromaCall, RingCall, lumaRingCall, chromaRingCall, CheckCall}
+use Rattle.answer_numbers.specs.AnswerNumbers.{unnamed, weightless, settledNumbers, noSample, refusedFor, convertedNumbers, ringTold, ringNumbers, noPlace, told, checkedNumbers}
+use Rattle.ayresokum.specs.Calls.{Told, SettleCall, ConvertCall, lumaCall, chromaCall, RingCall, lumaRingCall, chromaRingCall, CheckCall}
 
 -- ---- settle
 

@@ -14,15 +14,11 @@ use Rattle.answer_numbers.specs.declared.SettledNumbers.{SettledNumbers}
 use Rattle.answer_numbers.specs.declared.ConvertedNumbers.{ConvertedNumbers}
 use Rattle.answer_numbers.specs.declared.RingNumbers.{RingNumbers}
 use Rattle.answer_numbers.specs.declared.CheckedNumbers.{CheckedNumbers}
-use Rattle.answer_numbers.specs.AnswerNumbers.{weightless, settledNumbers, noSample, refusedFor, convertedNumbers, ringTold, ringNumbers, noPlace, told, checkedNumbers}
+use Rattle.answer_numbers.specs.AnswerNumbers.{unnamed, weightless, settledNumbers, noSample, refusedFor, convertedNumbers, ringTold, ringNumbers, noPlace, told, checkedNumbers}
 
 -- the number of the interface; it changes whenever a function's arguments or the layout of a record do
 abbrev pub version : ℕ
 version = 1
-
--- the number of the refusal where a number names no case of its enumeration
-abbrev pub unnamed : ℕ
-unnamed = 18
 
 -- the case of an enumeration that stands for a service's answer, as numbers; one case does
 pub record Told {A P R : Type 0} (paper : A → P) (numbers : A → R) (answer : P) (r : R) : Type 0 where

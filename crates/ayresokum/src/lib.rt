@@ -24,7 +24,7 @@ pub extern "C" fn ayresokum_settle(settings: SettingsNumbers) -> SettledNumbers
 {
     let meant = numbers::settings_of(settings);
     match meant {
-        Meant::Nothing => answer_numbers::weightless(18),
+        Meant::Nothing => answer_numbers::settled_unnamed(),
         Meant::These(s) => answer_numbers::settled_numbers(settle::settle(s)),
     }
 }
@@ -43,7 +43,7 @@ pub extern "C" fn ayresokum_convert(
 {
     let meant = numbers::settings_of(settings);
     match meant {
-        Meant::Nothing => answer_numbers::refused_for(18, answer_numbers::no_sample()),
+        Meant::Nothing => answer_numbers::converted_unnamed(),
         Meant::These(s) => answer_numbers::converted_numbers(rgb_to_nv_p16::convert(
             s,
             frame,
@@ -69,7 +69,7 @@ pub extern "C" fn ayresokum_convert_ring(
 {
     let meant = numbers::settings_of(settings);
     match meant {
-        Meant::Nothing => answer_numbers::ring_told(0, 18, answer_numbers::no_sample()),
+        Meant::Nothing => answer_numbers::ring_unnamed(),
         Meant::These(s) => answer_numbers::ring_numbers(ring::convert_ring(
             s,
             frame,
@@ -93,12 +93,7 @@ pub extern "C" fn ayresokum_check(
 {
     let meant = numbers::settings_of(settings);
     match meant {
-        Meant::Nothing => answer_numbers::told(
-            18,
-            0,
-            answer_numbers::no_place(),
-            answer_numbers::no_sample(),
-        ),
+        Meant::Nothing => answer_numbers::checked_unnamed(),
         Meant::These(s) => answer_numbers::checked_numbers(frame_check::check(
             s,
             frame,

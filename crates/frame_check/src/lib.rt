@@ -14,25 +14,12 @@ use rules::Checked;
 use rules::Frame;
 use rules::Matrix;
 use rules::Named;
-use rules::Place;
 use rules::Refusal;
 use rules::Search;
 use rules::Settings;
 use rules::Settled;
 use rules::Verdict;
 use settle::settle;
-
-// A place by numbers of 32 bits, which those of a frame fit.
-fn place_of(plane: u32, row: usize, element: usize) -> Place
-    requires { ⌜ (row ≤ 65536) × (element ≤ 65536) ⌝ }
-    ensures { λ r. ⌜ (r .plane ≡ plane) × (r .row ≡ row) × (r .element ≡ element) ⌝ }
-{
-    Place {
-        plane,
-        row: row as u32,
-        element: element as u32,
-    }
-}
 
 // The answer where no refusal is due: luma is walked first, and chroma only where luma is clean.
 fn check_settled(
@@ -51,11 +38,11 @@ fn check_settled(
     let limits = check_limits::limits_of(s, k);
     let in_luma = luma_walk::walk_luma(s, k, limits, f, source, luma);
     if let Search::At(row, element) = in_luma {
-        return Checked::Wrong(place_of(0, row, element));
+        return Checked::Wrong(walks::place_of(0, row, element));
     }
     let in_chroma = chroma_walk::walk_chroma(s, k, limits, f, source, chroma);
     if let Search::At(row, element) = in_chroma {
-        return Checked::Wrong(place_of(1, row, element));
+        return Checked::Wrong(walks::place_of(1, row, element));
     }
     Checked::Accepted
 }

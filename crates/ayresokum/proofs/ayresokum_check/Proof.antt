@@ -1,8 +1,6 @@
 -- `ayresokum::ayresokum_check` meets its contract. Assumes nothing.
 use borrow.Author.Needs.{needs}
 use mathlib.Core.Path.{sym, _∙_}
-use Rattle.answer_numbers.specs.AnswerNumbers.{told}
-use Rattle.ayresokum.specs.Calls.{unnamed}
 use Rattle.ayresokum.proofs.Calls.{untold, answered}
 use Rattle.ayresokum.proofs.ayresokum_check.Statement.{statement}
 use Rattle.ayresokum.proofs.ayresokum_check.Tie as tie
@@ -13,14 +11,8 @@ settings-of-requires c κs = search needs
 enum-told : tie.Need-enum-told
 enum-told c = search needs
 
-no-place-requires : tie.Need-no-place-requires
-no-place-requires c κs = search needs
-
-no-sample-requires : tie.Need-no-sample-requires
-no-sample-requires c κs = search needs
-
-told-requires : tie.Need-told-requires
-told-requires c κs = search needs
+checked-unnamed-requires : tie.Need-checked-unnamed-requires
+checked-unnamed-requires c κs = search needs
 
 enum-known-meant : tie.Need-enum-known-meant
 enum-known-meant c = search needs
@@ -32,7 +24,9 @@ checked-numbers-requires : tie.Need-checked-numbers-requires
 checked-numbers-requires c κs = search needs
 
 returns : tie.Need-returns
-returns c = let v = c .before .before .before .before .before .before .before .before .before .args in untold (v .frame) (v .source .now) (v .luma .now) (v .chroma .now) _ (sym (c .before .before .before .before .before .settings-of .ensures) ∙ c .before .before .before .enum-told .given .1) (c .told .ensures ∙ (λ i. told unnamed 0 (c .before .before .no-place .ensures i) (c .before .no-sample .ensures i)))
+returns c =
+    let v = c .before .before .before .before .before .before .before .args in
+    untold (v .frame) (v .source .now) (v .luma .now) (v .chroma .now) _ (sym (c .before .before .before .settings-of .ensures) ∙ c .before .enum-told .given .1) (c .checked-unnamed .ensures)
 
 returns-2 : tie.Need-returns-2
 returns-2 c = let v = c .before .before .before .before .before .before .before .before .before .args in answered (v .frame) (v .source .now) (v .luma .now) (v .chroma .now) _ (sym (c .before .before .before .before .before .settings-of .ensures) ∙ c .before .before .before .meant .given .1) (c .before .check .result) (c .before .check .ensures) (c .checked-numbers .ensures)
@@ -43,9 +37,7 @@ ayresokum-check-spec =
     (tie.spec
     settings-of-requires
     enum-told
-    no-place-requires
-    no-sample-requires
-    told-requires
+    checked-unnamed-requires
     enum-known-meant
     check-requires
     checked-numbers-requires

@@ -1,8 +1,6 @@
 -- `ayresokum::ayresokum_convert` meets its contract. Assumes nothing.
 use borrow.Author.Needs.{needs}
-use mathlib.Core.Path.{sym, ap, _∙_}
-use Rattle.answer_numbers.specs.AnswerNumbers.{refusedFor}
-use Rattle.ayresokum.specs.Calls.{unnamed}
+use mathlib.Core.Path.{sym, _∙_}
 use Rattle.ayresokum.proofs.Calls.{unmeant, meant}
 use Rattle.ayresokum.proofs.ayresokum_convert.Statement.{statement}
 use Rattle.ayresokum.proofs.ayresokum_convert.Tie as tie
@@ -13,11 +11,8 @@ settings-of-requires c κs = search needs
 enum-told : tie.Need-enum-told
 enum-told c = search needs
 
-no-sample-requires : tie.Need-no-sample-requires
-no-sample-requires c κs = search needs
-
-refused-for-requires : tie.Need-refused-for-requires
-refused-for-requires c κs = search needs
+converted-unnamed-requires : tie.Need-converted-unnamed-requires
+converted-unnamed-requires c κs = search needs
 
 enum-known-meant : tie.Need-enum-known-meant
 enum-known-meant c = search needs
@@ -29,7 +24,9 @@ converted-numbers-requires : tie.Need-converted-numbers-requires
 converted-numbers-requires c κs = search needs
 
 returns : tie.Need-returns
-returns c = let v = c .before .before .before .before .before .before .before .before .args in unmeant (v .frame) (v .source .now) (v .luma .now) (v .chroma .now) (sym (c .before .before .before .before .settings-of .ensures) ∙ c .before .before .enum-told .given .1) (c .refused-for .ensures ∙ ap (refusedFor unnamed) (c .before .no-sample .ensures))
+returns c =
+    let v = c .before .before .before .before .before .before .before .args in
+    unmeant (v .frame) (v .source .now) (v .luma .now) (v .chroma .now) (sym (c .before .before .before .settings-of .ensures) ∙ c .before .enum-told .given .1) (c .converted-unnamed .ensures)
 
 same-length : tie.Need-same-length
 same-length c = search needs
@@ -46,8 +43,7 @@ ayresokum-convert-spec =
     (tie.spec
     settings-of-requires
     enum-told
-    no-sample-requires
-    refused-for-requires
+    converted-unnamed-requires
     enum-known-meant
     convert-requires
     converted-numbers-requires

@@ -1,8 +1,6 @@
 -- `ayresokum::ayresokum_convert_ring` meets its contract. Assumes nothing.
 use borrow.Author.Needs.{needs}
-use mathlib.Core.Path.{sym, ap, _∙_}
-use Rattle.answer_numbers.specs.AnswerNumbers.{ringTold}
-use Rattle.ayresokum.specs.Calls.{unnamed}
+use mathlib.Core.Path.{sym, _∙_}
 use Rattle.ayresokum.proofs.Calls.{unmeant-ring, meant-ring}
 use Rattle.ayresokum.proofs.ayresokum_convert_ring.Statement.{statement}
 use Rattle.ayresokum.proofs.ayresokum_convert_ring.Tie as tie
@@ -13,11 +11,8 @@ settings-of-requires c κs = search needs
 enum-told : tie.Need-enum-told
 enum-told c = search needs
 
-no-sample-requires : tie.Need-no-sample-requires
-no-sample-requires c κs = search needs
-
-ring-told-requires : tie.Need-ring-told-requires
-ring-told-requires c κs = search needs
+ring-unnamed-requires : tie.Need-ring-unnamed-requires
+ring-unnamed-requires c κs = search needs
 
 enum-known-meant : tie.Need-enum-known-meant
 enum-known-meant c = search needs
@@ -30,9 +25,9 @@ ring-numbers-requires c κs = search needs
 
 returns : tie.Need-returns
 returns c =
-    let v = c .before .before .before .before .before .before .before .before .args in
+    let v = c .before .before .before .before .before .before .before .args in
     unmeant-ring (v .frame) (v .count) (v .source .now) (v .luma .now) (v .chroma .now)
-    (sym (c .before .before .before .before .settings-of .ensures) ∙ c .before .before .enum-told .given .1) (c .ring-told .ensures ∙ ap (ringTold 0 unnamed) (c .before .no-sample .ensures))
+    (sym (c .before .before .before .settings-of .ensures) ∙ c .before .enum-told .given .1) (c .ring-unnamed .ensures)
 
 same-length : tie.Need-same-length
 same-length c = search needs
@@ -53,8 +48,7 @@ ayresokum-convert-ring-spec =
     (tie.spec
     settings-of-requires
     enum-told
-    no-sample-requires
-    ring-told-requires
+    ring-unnamed-requires
     enum-known-meant
     convert-ring-requires
     ring-numbers-requires

@@ -11,8 +11,8 @@ settings-of-requires c κs = search needs
 enum-told : tie.Need-enum-told
 enum-told c = search needs
 
-weightless-requires : tie.Need-weightless-requires
-weightless-requires c κs = search needs
+settled-unnamed-requires : tie.Need-settled-unnamed-requires
+settled-unnamed-requires c κs = search needs
 
 enum-known-meant : tie.Need-enum-known-meant
 enum-known-meant c = search needs
@@ -24,7 +24,7 @@ settled-numbers-requires : tie.Need-settled-numbers-requires
 settled-numbers-requires c κs = search needs
 
 returns : tie.Need-returns
-returns c = unsettled _ (sym (c .before .before .before .settings-of .ensures) ∙ c .before .enum-told .given .1) (c .weightless .ensures)
+returns c = unsettled _ (sym (c .before .before .before .settings-of .ensures) ∙ c .before .enum-told .given .1) (c .settled-unnamed .ensures)
 
 returns-2 : tie.Need-returns-2
 returns-2 c =
@@ -37,7 +37,7 @@ ayresokum-settle-spec =
     (tie.spec
     settings-of-requires
     enum-told
-    weightless-requires
+    settled-unnamed-requires
     enum-known-meant
     settle-requires
     settled-numbers-requires
