@@ -2,11 +2,13 @@
 from fractions import Fraction
 from itertools import zip_longest
 
-from model import TABLE, Frame, Settings, convert_ring
+from model import TABLE, Frame, Settings, convert_ring, f32
 
 ROOM = 65540
 ROW = (1023, 0, 0, 0, 0, 1023, 1023, 1023, 1023)
-MATRICES = dict(enumerate(TABLE)) | {5: (Fraction(1, 4), Fraction(1, 8)), 55: (Fraction(0), Fraction(0))}
+# the numbers of Bt470_6 before request Three of document 02, as floats
+FORMER = (f32(Fraction(2220, 10000)), f32(Fraction(713, 10000)))
+MATRICES = dict(enumerate(TABLE)) | {5: (Fraction(1, 4), Fraction(1, 8)), 54: FORMER, 55: (Fraction(0), Fraction(0))}
 # the refusal of a number that names no case of its enumeration, before all others
 UNNAMED = 18
 

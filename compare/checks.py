@@ -1,9 +1,10 @@
 #!/usr/bin/env python3
 """checks.py FILE...: works out every line of FILE, the output of the programs run_checks and run_edges, afresh and says which differ."""
 import sys
+from copy import copy
 from math import ceil, floor
 
-from cases import MATRICES, Case, checked_numbers, checksum, counted, differing, line_of
+from cases import FORMER, MATRICES, Case, checked_numbers, checksum, counted, differing, line_of
 from model import (COUNT, PLACES, Frame, Settings, block, check, convert, exact_chroma, exact_luma, formed, pixel, tolerance)
 
 
@@ -121,6 +122,13 @@ def left(c, source, luma, chroma, old, plane, first, count):
     return check(c.settings, c.frame, source, *planes)
 
 
+def former(c, source):
+    """Planes written by the numbers that Bt470_6 had, judged by the settings of the case."""
+    settings = copy(c.settings)
+    settings.matrix = FORMER
+    return check(c.settings, c.frame, source, *convert(settings, c.frame, source, *c.planes())[1:])
+
+
 def work_out(lines):
     """Each line as it should be."""
     c = source = luma = chroma = old = None
@@ -154,6 +162,9 @@ def work_out(lines):
         elif name == 'left':
             answer = left(c, source, luma, chroma, old, *numbers)
             yield line
+        elif name == 'former':
+            answer = former(c, source)
+            yield line
         elif name == 'unwritten':
             answer = check(c.settings, c.frame, source, *c.planes())
             yield line
@@ -166,10 +177,10 @@ def main():
     wrong = differing(lines, work_out(lines))
     print(f'{len(lines)} lines, {len(wrong)} differ')
     names = [line.split()[0] for line in lines]
-    print({name: names.count(name) for name in ('case', 'words', 'pair', 'left', 'unwritten', 'edges', 'faults', 'lost', 'block')})
+    print({name: names.count(name) for name in ('case', 'words', 'pair', 'left', 'former', 'unwritten', 'edges', 'faults', 'lost', 'block')})
     blocks = [[int(n) for n in line.split()[1:9]] for line in lines if line.startswith('block ')]
     print('places of blocks with a code exactly at the tolerance:', sum(at_tolerance(numbers) for numbers in blocks))
-    for name in ('pair', 'left', 'unwritten'):
+    for name in ('pair', 'left', 'former', 'unwritten'):
         answers = [b for a, b in zip(lines, lines[1:]) if a.split()[0] == name]
         print(f'{name}:', counted(answers), sorted({a.split()[1] for a in answers if a.startswith('refused')}, key=int))
     sys.exit(1 if wrong else 0)

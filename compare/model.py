@@ -1,10 +1,10 @@
-"""A model of document 01, with requests One and Two of document 02, that shares nothing with the proved code: exact fractions, 32-bit
+"""A model of document 01, with requests One to Three of document 02, that shares nothing with the proved code: exact fractions, 32-bit
 floats rounded from them to the nearest (ties to even), and whole numbers of any size."""
 import struct
 from fractions import Fraction
 from functools import lru_cache
 
-TABLE = {'Bt601': (2990, 1140), 'Bt709': (2126, 722), 'Bt2020': (2627, 593), 'Smpte240': (2120, 870), 'Bt470_6': (2220, 713)}
+TABLE = {'Bt601': (2990, 1140), 'Bt709': (2126, 722), 'Bt2020': (2627, 593), 'Smpte240': (2120, 870), 'Bt470_6': (2990, 1140)}
 COUNT = (3, 4, 4, 3)
 PLACES = ((0, 1, 2), (0, 1, 2), (2, 1, 0), (2, 1, 0))
 LARGEST = Fraction(2 ** 24 - 1) * 2 ** 104

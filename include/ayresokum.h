@@ -78,7 +78,7 @@ enum ayresokum_matrix {
     AYRESOKUM_BT709 = 1,
     AYRESOKUM_BT2020 = 2,
     AYRESOKUM_SMPTE240 = 3,
-    AYRESOKUM_BT470_6 = 4,
+    AYRESOKUM_BT470_6 = 4, /* systems B and G: the numbers of BT601, and other ones than yuvutils-rs has */
     AYRESOKUM_CUSTOM = 5 /* kr and kb of the settings */
 };
 

@@ -6,7 +6,7 @@
 //! - P is 13 where yuvutils-rs has 15, so codes may differ: by 1 at most at 10 and 12 bits in the frames compared, by up to 8
 //!   at 16 bits.
 //! - At 4:2:0 with an odd width each luma sample is stored at its own place.
-//! - `Smpte240` has the numbers of Rec. ITU-T H.273. At 16 bits in full range it gets refusal 5.
+//! - `Smpte240` and `Bt470_6` have the numbers of Rec. ITU-T H.273. At 16 bits in full range `Smpte240` gets refusal 5.
 //! - Refused, where yuvutils-rs goes on: a custom pair that is not positive, a code or a sample out of range, a buffer that is
 //!   longer than stride × rows or lacks the padding of its last row.
 //! - The error is a [`Refusal`], which names the first sample out of range, and the planes of a refused call are untouched.

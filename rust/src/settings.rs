@@ -11,7 +11,7 @@ pub enum YuvRange {
 
 /// Where Kr and Kb come from.
 ///
-/// Smpte240 has the numbers of Rec. ITU-T H.273. yuvutils-rs 0.8.3 has its two crossed.
+/// The names have the numbers of Rec. ITU-T H.273. yuvutils-rs 0.8.3 has the two of Smpte240 crossed, and 0.2220, 0.0713 for Bt470_6.
 #[derive(Debug, Clone, Copy, PartialEq, PartialOrd)]
 pub enum YuvStandardMatrix {
     /// Kr 0.2990, Kb 0.1140.
@@ -22,7 +22,7 @@ pub enum YuvStandardMatrix {
     Bt2020,
     /// Kr 0.2120, Kb 0.0870.
     Smpte240,
-    /// Kr 0.2220, Kb 0.0713.
+    /// Systems B and G: Kr 0.2990, Kb 0.1140, as Bt601.
     Bt470_6,
     /// Kr, then Kb. [`check`](crate::check()) refuses it, since it has no exact fractions.
     Custom(f32, f32),

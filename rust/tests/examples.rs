@@ -64,6 +64,39 @@ fn whole_frames() {
     assert_eq!(planes.chroma, [682, 726, 512, 512, 7, 7]);
 }
 
+/// The example of docs/DIFFERENCES.md: written by the numbers that Bt470_6 had before request Three, judged by those that it has.
+#[test]
+fn former_bt470_6() {
+    let full = Settings {
+        subsampling: YuvChromaSubsampling::Yuv444,
+        ..J
+    };
+    let with = |matrix| Settings { matrix, ..full };
+    let frame = Frame::unpadded(&full, 3, 1);
+    let source = [1023, 1023, 1023, 512, 512, 512, 1023, 0, 0];
+    let now = with(YuvStandardMatrix::Bt470_6);
+    let former = converted(
+        &with(YuvStandardMatrix::Custom(0.222, 0.0713)),
+        &frame,
+        &source,
+    )
+    .unwrap();
+    assert_eq!(former.luma, [1023, 512, 227]);
+    assert_eq!(former.chroma, [512, 512, 512, 512, 390, 1023]);
+    assert_eq!(
+        converted(&now, &frame, &source).unwrap().luma,
+        [1023, 512, 306]
+    );
+    assert_eq!(
+        check(&now, &frame, &source, &former.luma, &former.chroma),
+        Ok(Checked::Wrong(Place {
+            plane: Plane::Luma,
+            row: 0,
+            element: 2
+        }))
+    );
+}
+
 /// What check says where the luma of one pixel is `code`.
 fn luma_checked(settings: &Settings, pixel: &[u16; 3], code: u16) -> Checked {
     let frame = Frame::unpadded(settings, 1, 1);

@@ -4,6 +4,7 @@ use std::fmt;
 
 pub const CUSTOM: u32 = 5;
 pub const SMPTE240: u32 = 3;
+pub const BT470_6: u32 = 4;
 
 pub const CHANNELS: [&str; 4] = ["Rgb", "Rgba", "Bgra", "Bgr"];
 pub const SUBSAMPLINGS: [&str; 3] = ["4:2:0", "4:2:2", "4:4:4"];

@@ -2,7 +2,7 @@
 use crate::caught;
 use crate::frame::{Frame, Planes};
 use crate::image;
-use crate::settings::{Settings, CUSTOM, SMPTE240};
+use crate::settings::{Settings, BT470_6, CUSTOM, SMPTE240};
 use published::{Call, Choice, YuvError, YuvRange, YuvStandardMatrix};
 
 /// The type that weights are cast to before the loops.
@@ -26,7 +26,8 @@ pub fn matrix(settings: &Settings) -> YuvStandardMatrix {
         2 => YuvStandardMatrix::Bt2020,
         // The crate has its two numbers crossed.
         SMPTE240 => YuvStandardMatrix::Custom(0.212, 0.087),
-        4 => YuvStandardMatrix::Bt470_6,
+        // The crate has other numbers for it.
+        BT470_6 => YuvStandardMatrix::Custom(0.299, 0.114),
         CUSTOM => YuvStandardMatrix::Custom(settings.kr, settings.kb),
         other => panic!("no matrix has the number {other}"),
     }

@@ -3,6 +3,7 @@ ghost use mathlib.Core.Path.{_≡_};
 ghost use Prim.Native.Nat.{_+_, _*_, _≤_};
 use numbers::SettingsNumbers;
 use rules::Frame;
+use rules::YuvBias;
 
 // Settings and a frame by numbers; the lengths of the buffers; a seed for the samples, 0 for document 01's row; and one sample
 // put at an index.
@@ -60,28 +61,53 @@ pub fn base() -> Case
 // Stands for matrix 5 with the pair 0, 0, which settle refuses; 5 itself has the pair 1/4, 1/8, which it accepts.
 pub const ZERO_PAIR: u32 = 55;
 
+// Stands for matrix 5 with the pair 0.222, 0.0713, which Bt470_6 had before request Three of document 02.
+pub const FORMER_PAIR: u32 = 54;
+
+fn pair_of(matrix: u32) -> YuvBias {
+    if matrix == ZERO_PAIR {
+        return YuvBias {
+            kr: 0.0f32,
+            kb: 0.0f32,
+        };
+    }
+    if matrix == FORMER_PAIR {
+        return YuvBias {
+            kr: 0.222f32,
+            kb: 0.0713f32,
+        };
+    }
+    YuvBias {
+        kr: 0.25f32,
+        kb: 0.125f32,
+    }
+}
+
+fn matrix_of(matrix: u32) -> u32 {
+    match matrix {
+        ZERO_PAIR => 5,
+        FORMER_PAIR => 5,
+        _ => matrix,
+    }
+}
+
 pub fn settings_of(c: Case) -> SettingsNumbers
     ensures { λ r. ⌜ (r .depth ≡ c .depth) × (r .precision ≡ c .precision) ⌝ }
 {
-    let mut n = SettingsNumbers {
+    let pair = pair_of(c.matrix);
+    SettingsNumbers {
         depth: c.depth,
         precision: c.precision,
-        matrix: c.matrix,
-        kr: 0.25f32,
-        kb: 0.125f32,
+        matrix: matrix_of(c.matrix),
+        kr: pair.kr,
+        kb: pair.kb,
         range: c.range,
         subsampling: c.subsampling,
         order: c.order,
         packing: c.packing,
         byte_order: c.byte_order,
         channels: c.channels,
-    };
-    if c.matrix == ZERO_PAIR {
-        n.matrix = 5;
-        n.kr = 0.0f32;
-        n.kb = 0.0f32;
     }
-    n
 }
 
 pub fn frame_of(c: Case) -> Frame

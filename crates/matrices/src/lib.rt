@@ -17,7 +17,7 @@ pub fn matrix_of(matrix: YuvStandardMatrix) -> Matrix
         YuvStandardMatrix::Bt709 => Matrix::Tabled(Named { kr: 2126, kb: 722 }),
         YuvStandardMatrix::Bt2020 => Matrix::Tabled(Named { kr: 2627, kb: 593 }),
         YuvStandardMatrix::Smpte240 => Matrix::Tabled(Named { kr: 2120, kb: 870 }),
-        YuvStandardMatrix::Bt470_6 => Matrix::Tabled(Named { kr: 2220, kb: 713 }),
+        YuvStandardMatrix::Bt470_6 => Matrix::Tabled(Named { kr: 2990, kb: 1140 }),
         YuvStandardMatrix::Custom(kr, kb) => Matrix::Own(YuvBias { kr, kb }),
     }
 }

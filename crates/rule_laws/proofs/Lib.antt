@@ -4,3 +4,4 @@ pub mod Depths
 pub mod Order
 pub mod Extremes
 pub mod Settling
+pub mod OneRow

@@ -1,9 +1,10 @@
-// Checks small frames with one or two words changed, frames with rows left over from another, and settings and frames that are refused;
-// compare/checks.py works every line out afresh.
+// Checks small frames with one or two words changed, frames with rows left over from another, frames written by the former numbers of
+// Bt470_6, and settings and frames that are refused; compare/checks.py works every line out afresh.
 ghost use Prim.Native.Nat.{_<_};
 use cases::case;
 use cases::case::Case;
 
+mod former;
 mod leftover;
 mod pairs;
 mod planes;
@@ -27,11 +28,19 @@ fn layout(t: usize) -> Case
     c
 }
 
+fn run_layout(t: usize)
+    requires { ⌜ t < 12 ⌝ }
+{
+    let precision = (t + 1) as u32;
+    words::run(case::laid(layout(t), 3, 3, 1));
+    pairs::run(case::laid(layout(t), 3, 2, 1));
+    leftover::run(case::laid(layout(t), 5, 4, 1), 91);
+    former::run(case::laid(layout(t), 5, 4, 1), precision);
+}
+
 fn run_layouts() {
     for t in 0..12 {
-        words::run(case::laid(layout(t), 3, 3, 1));
-        pairs::run(case::laid(layout(t), 3, 2, 1));
-        leftover::run(case::laid(layout(t), 5, 4, 1), 91);
+        run_layout(t);
     }
 }
 

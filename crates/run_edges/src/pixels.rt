@@ -1,5 +1,5 @@
 // Frames of one chroma block, given by the block's channel sums: the codes accepted as luma of its first pixel and as both chroma samples.
-// The extremes of every range; sums at which a code lies exactly at the tolerance; and sums at which one lies the least step beyond it.
+// The extremes of every range; sums at which a code lies exactly at the tolerance, or next to it; and sums at which one lies the least step beyond it.
 ghost use Prim.Native.Nat.{_≤_, _<_};
 use crate::edges::Accepted;
 use crate::edges::Two;
@@ -176,19 +176,24 @@ fn run_depths() {
     }
 }
 
-// A code lies exactly at the tolerance: luma's above and below it, then Cr's of one, two and four pixels. It does so at P = 1 and 2 alone,
-// and no Cb of named settings that settle does (compare/at_tolerance.py).
+// A luma code lies exactly at the tolerance, above the exact value and below it. It does so at P = 1 and 2 alone, and no chroma code of named
+// settings that settle does (compare/at_tolerance.py).
 fn run_exact() {
     run_sums(10, 1, 0, 1, 1, 1, 44, 77);
     run_sums(10, 1, 0, 1, 1, 889, 1020, 996);
     run_sums(10, 1, 1, 1, 1, 1, 245, 422);
     run_sums(10, 1, 1, 1, 1, 447, 1023, 906);
-    run_sums(12, 1, 4, 1, 1, 0, 2608, 2219);
-    run_sums(12, 1, 4, 1, 1, 4070, 0, 389);
-    run_sums(12, 2, 4, 1, 2, 0, 3385, 2996);
-    run_sums(12, 2, 4, 1, 2, 4521, 0, 389);
-    run_sums(12, 2, 4, 1, 4, 0, 14354, 13576);
-    run_sums(12, 2, 4, 1, 4, 0, 126, 904);
+    run_sums(10, 2, 2, 1, 1, 7, 845, 952);
+    run_sums(10, 2, 2, 1, 1, 2, 548, 417);
+}
+
+// A chroma code lies next to the tolerance: Cr of two pixels within it by less than 10^-7, Cb of four pixels within it by some 10^-6, then beyond it by less than
+// 10^-6, above the exact value and below it.
+fn run_close() {
+    run_sums(10, 13, 2, 0, 2, 0, 1914, 443);
+    run_sums(12, 13, 3, 0, 4, 14160, 16370, 0);
+    run_sums(12, 13, 3, 0, 4, 15568, 16218, 0);
+    run_sums(12, 13, 3, 0, 4, 15906, 16169, 0);
 }
 
 // A luma code lies beyond the tolerance by one in the numerator over 10000·m, above it and below it.
@@ -202,5 +207,6 @@ fn run_beyond() {
 pub(crate) fn run() {
     run_depths();
     run_exact();
+    run_close();
     run_beyond();
 }

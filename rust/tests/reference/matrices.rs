@@ -14,7 +14,7 @@ pub fn row(settings: &Settings) -> Row {
         1 => (2126, 722, 7152),
         2 => (2627, 593, 6780),
         3 => (2120, 870, 7010),
-        4 => (2220, 713, 7067),
+        4 => (2990, 1140, 5870),
         other => unreachable!("matrix {other} has no row"),
     };
     Row { kr, kb, kg }

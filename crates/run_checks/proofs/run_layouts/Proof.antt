@@ -13,32 +13,8 @@ abbrev μ-loop : tie.MeasureT-loop
 loop-holds : tie.Need-loop-holds Inv-loop μ-loop
 loop-holds c = search needs
 
-layout-requires : tie.Need-layout-requires Inv-loop μ-loop
-layout-requires c κs = search needs
-
-laid-requires : tie.Need-laid-requires Inv-loop μ-loop
-laid-requires c κs = search needs
-
-run-requires : tie.Need-run-requires Inv-loop μ-loop
-run-requires c κs = search needs
-
-layout-requires-2 : tie.Need-layout-requires-2 Inv-loop μ-loop
-layout-requires-2 c κs = search needs
-
-laid-requires-2 : tie.Need-laid-requires-2 Inv-loop μ-loop
-laid-requires-2 c κs = search needs
-
-run-requires-2 : tie.Need-run-requires-2 Inv-loop μ-loop
-run-requires-2 c κs = search needs
-
-layout-requires-3 : tie.Need-layout-requires-3 Inv-loop μ-loop
-layout-requires-3 c κs = search needs
-
-laid-requires-3 : tie.Need-laid-requires-3 Inv-loop μ-loop
-laid-requires-3 c κs = search needs
-
-run-requires-3 : tie.Need-run-requires-3 Inv-loop μ-loop
-run-requires-3 c κs = search needs
+run-layout-requires : tie.Need-run-layout-requires Inv-loop μ-loop
+run-layout-requires c κs = search needs
 
 add-t : tie.Need-add-t Inv-loop μ-loop
 add-t c = search needs
@@ -59,15 +35,7 @@ run-layouts-spec =
     Inv-loop
     μ-loop
     loop-holds
-    layout-requires
-    laid-requires
-    run-requires
-    layout-requires-2
-    laid-requires-2
-    run-requires-2
-    layout-requires-3
-    laid-requires-3
-    run-requires-3
+    run-layout-requires
     add-t
     loop-less
     loop-again
