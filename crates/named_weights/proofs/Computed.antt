@@ -64,14 +64,10 @@ smpte240 : RowPasses (matrixOf Smpte240)
 unfolding every
 smpte240 = refl
 
-bt470 : RowPasses (matrixOf Bt470_6)
-unfolding every
-bt470 = refl
-
 pub passes : (m : YuvStandardMatrix) → RowPasses (matrixOf m)
 passes Bt601 = bt601
 passes Bt709 = bt709
 passes Bt2020 = bt2020
 passes Smpte240 = smpte240
-passes Bt470_6 = bt470
+passes Bt470_6 = bt601
 passes (Custom r b) = tt
