@@ -2,7 +2,7 @@
 from fractions import Fraction
 from itertools import zip_longest
 
-from model import TABLE, Frame, Settings, convert_ring, f32
+from model import TABLE, Frame, Settings, check, convert, convert_ring, f32
 
 ROOM = 65540
 ROW = (1023, 0, 0, 0, 0, 1023, 1023, 1023, 1023)
@@ -28,14 +28,14 @@ def source_of(depth, seed, length, at, sample):
 
 
 class Case:
-    """The twenty numbers of a line that begins with 'case'."""
+    """The twenty numbers of a line that begins with 'case', and the three of one that begins with 'window', where there is one."""
 
-    def __init__(self, line):
+    def __init__(self, line, window='window'):
         n = [int(word) for word in line.split()[1:]]
         # each enumeration's number names a case: range, subsampling, order, packing, byte order, channels
         self.named = n[2] in MATRICES and all(number < cases for number, cases in zip(n[3:9], (2, 3, 2, 2, 2, 4)))
         self.settings = Settings(n[0], n[1], MATRICES.get(n[2]), n[3] == 1, *n[4:9])
-        self.frame = Frame(*n[9:14])
+        self.frame = Frame(*n[9:14], *[int(word) for word in window.split()[1:]])
         self.lengths = [min(length, ROOM) for length in n[14:17]]
         self.seed, self.at, self.sample = n[17:20]
 
@@ -83,6 +83,28 @@ def checked_numbers(answer):
     if word == 'refused':
         return padded(numbers[:1], 5) + padded(numbers[1:], 3)
     return padded([0, 1, *numbers] if word == 'wrong' else [], 8)
+
+
+def spoiled(plane, seed):
+    """One element, padding or not, is again what it was before the frame came."""
+    at = seed % 13
+    return plane[:at] + [7] + plane[at + 1:] if at < len(plane) else plane
+
+
+def frame_lines(c):
+    """The six lines of a frame: convert's answer, both planes, and what check says of them as written, with chroma spoiled, and with both
+    spoiled."""
+    s, f, source = c.settings, c.frame, c.source()
+    refusal, luma, chroma = convert(s, f, source, *c.planes())
+    spoiled_luma, spoiled_chroma = spoiled(luma, c.seed), spoiled(chroma, c.seed)
+    checks = [check(s, f, source, a, b) for a, b in ((luma, chroma), (luma, spoiled_chroma), (spoiled_luma, spoiled_chroma))]
+    return [line_of('answer', refusal or (0,)), shown('luma', luma), shown('chroma', chroma)] + checks
+
+
+def convert_and_check(c, source, planes):
+    """Refusal, row, pixel and channel as convert gives them, all that check gives, and both planes after."""
+    refusal, *planes = convert(c.settings, c.frame, source, *planes)
+    return padded(refusal, 4), checked_numbers(check(c.settings, c.frame, source, *planes)), planes
 
 
 def differing(lines, right):

@@ -2,28 +2,8 @@
 """frames.py FILE: works out every case of FILE, the output of the program run_frames, afresh and says which differ."""
 import sys
 
-from cases import Case, checked_numbers, checksum, counted, differing, line_of, padded, shown
-from model import COUNT, check, convert
-
-
-def spoiled(plane, seed):
-    at = seed % 13
-    return plane[:at] + [7] + plane[at + 1:] if at < len(plane) else plane
-
-
-def converted(c, line):
-    """The seven lines of a frame."""
-    s, f, source = c.settings, c.frame, c.source()
-    refusal, luma, chroma = convert(s, f, source, *c.planes())
-    spoiled_luma, spoiled_chroma = spoiled(luma, c.seed), spoiled(chroma, c.seed)
-    checks = [check(s, f, source, a, b) for a, b in ((luma, chroma), (luma, spoiled_chroma), (spoiled_luma, spoiled_chroma))]
-    return [line, line_of('answer', refusal or (0,)), shown('luma', luma), shown('chroma', chroma)] + checks
-
-
-def convert_and_check(c, source, planes):
-    """Refusal, row, pixel and channel as convert gives them, all that check gives, and both planes after."""
-    refusal, *planes = convert(c.settings, c.frame, source, *planes)
-    return padded(refusal, 4), checked_numbers(check(c.settings, c.frame, source, *planes)), planes
+from cases import Case, checksum, convert_and_check, counted, differing, frame_lines, line_of
+from model import COUNT
 
 
 def high(c, row):
@@ -61,7 +41,8 @@ def work_out(lines):
         if line.startswith('case '):
             c = Case(line)
             planes = c.planes()
-            yield from converted(c, line)
+            yield line
+            yield from frame_lines(c)
         elif line.startswith('high '):
             yield high(c, int(line.split()[1]))
         elif line.startswith('from '):

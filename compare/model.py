@@ -1,4 +1,4 @@
-"""A model of document 01, with requests One to Three of document 02, that shares nothing with the proved code: exact fractions, 32-bit
+"""A model of document 01, with requests One to Four of document 02, that shares nothing with the proved code: exact fractions, 32-bit
 floats rounded from them to the nearest (ties to even), and whole numbers of any size."""
 import struct
 from fractions import Fraction
@@ -142,13 +142,18 @@ class Settings:
 
 
 class Frame:
-    def __init__(self, width, height, source_stride, luma_stride, chroma_stride):
+    """A window on a source; without its numbers, the whole of a source of the frame's rows."""
+
+    def __init__(self, width, height, source_stride, luma_stride, chroma_stride, first_column=0, first_row=0, source_rows=None):
         self.width, self.height = width, height
         self.source_stride, self.luma_stride, self.chroma_stride = source_stride, luma_stride, chroma_stride
+        self.first_column, self.first_row = first_column, first_row
+        self.source_rows = height if source_rows is None else source_rows
 
 
 def pixel(s, f, source, row, column):
-    at = row * f.source_stride + column * COUNT[s.channels]
+    """Rows and columns count from the window's corner."""
+    at = (f.first_row + row) * f.source_stride + (f.first_column + column) * COUNT[s.channels]
     return tuple(source[at + p] for p in PLACES[s.channels])
 
 
@@ -166,18 +171,21 @@ def too_large(s, f, source):
 
 
 def shape_refusal(s, f):
-    """Refusal 7 or 8, or none: a frame's size and strides."""
+    """Refusal 7, 12 or 8, or none: a frame's size, its window and its strides."""
     if not (1 <= f.width <= 16384 and 1 <= f.height <= 16384):
         return (7,)
+    if max(f.first_column, f.first_row, f.source_rows) > 16384 or f.first_row + f.height > f.source_rows:
+        return (12,)
     wide, _ = s.chroma_size(f.width, f.height)
-    strides = ((f.width * COUNT[s.channels], f.source_stride), (f.width, f.luma_stride), (wide, f.chroma_stride))
+    covered = (f.first_column + f.width) * COUNT[s.channels]
+    strides = ((covered, f.source_stride), (f.width, f.luma_stride), (wide, f.chroma_stride))
     return (8,) if any(not low <= stride <= 65536 for low, stride in strides) else ()
 
 
 def lengths(s, f):
     """How many elements of the source, of luma and of chroma one frame takes."""
     _, high = s.chroma_size(f.width, f.height)
-    return f.height * f.source_stride, f.height * f.luma_stride, high * f.chroma_stride
+    return f.source_rows * f.source_stride, f.height * f.luma_stride, high * f.chroma_stride
 
 
 def length_refusal(s, f, count, *buffers):
@@ -186,7 +194,7 @@ def length_refusal(s, f, count, *buffers):
 
 
 def frame_refusal(s, f, source, luma, chroma):
-    """The numbers of a refusal, 7 to 10, or none: 10 comes with the place of the first sample above m."""
+    """The numbers of a refusal, 7 to 10 or 12, or none: 10 comes with the place of the first sample above m."""
     return (shape_refusal(s, f) or length_refusal(s, f, 1, source, luma, chroma)
             or next(((10, *place) for place in too_large(s, f, source)), ()))
 

@@ -1,6 +1,7 @@
 /* A temper-colour ramp is converted and checked; then rows of the frame before are left in the planes, and the check finds them.
  * What is printed answers the auditor's three questions. Then a gain change makes one sample of the source too large, and both convert
- * and check name it. Last, the same happens to one frame of a ring, which is converted up to that frame. */
+ * and check name it. The same happens to one frame of a ring, which is converted up to that frame. Last, a window on the source is
+ * converted, for which what lies outside it may be anything. */
 #include <ayresokum.h>
 #include <stdio.h>
 #include <string.h>
@@ -8,6 +9,12 @@
 #define WIDTH 64
 #define HEIGHT 16
 #define RING 4
+
+/* The window, with a corner at an odd column and an odd row. */
+#define WINDOW_WIDTH 20
+#define WINDOW_HEIGHT 6
+#define FIRST_COLUMN 21
+#define FIRST_ROW 5
 
 /* Steel as it is tempered, from pale straw to grey blue, in 10 bits. */
 static const uint16_t TEMPER[8][3] = {
@@ -28,11 +35,20 @@ static uint16_t before_luma[LUMA], before_chroma[CHROMA];   /* of the frame befo
 static uint16_t ring_source[RING * SOURCE], ring_luma[RING * LUMA], ring_chroma[RING * CHROMA];
 static const uint16_t unwritten[LUMA]; /* as the ring's planes are before, all 0, which is no code of limited range */
 
-static const ayresokum_frame FRAME = { WIDTH, HEIGHT, WIDTH * 3, WIDTH, WIDTH };
+/* Of the window. */
+static uint16_t window_luma[WINDOW_HEIGHT * WINDOW_WIDTH], window_chroma[WINDOW_HEIGHT / 2 * WINDOW_WIDTH];
+
 static const ayresokum_settings SETTINGS = {
     10, 13, AYRESOKUM_BT709, 0, 0, AYRESOKUM_LIMITED, AYRESOKUM_YUV420,
     AYRESOKUM_UV, AYRESOKUM_LEAST_SIGNIFICANT, AYRESOKUM_LITTLE_ENDIAN, AYRESOKUM_RGB
 };
+
+static ayresokum_frame whole_frame(void)
+{
+    return ayresokum_whole((ayresokum_frame){
+        .width = WIDTH, .height = HEIGHT, .source_stride = WIDTH * 3, .luma_stride = WIDTH, .chroma_stride = WIDTH
+    });
+}
 
 /* The ramp from left to right, moved by some columns, a little darker from row to row. */
 static void draw(unsigned moved)
@@ -51,12 +67,12 @@ static void draw(unsigned moved)
 
 static ayresokum_converted convert(void)
 {
-    return ayresokum_convert(SETTINGS, FRAME, source, SOURCE, luma, LUMA, chroma, CHROMA);
+    return ayresokum_convert(SETTINGS, whole_frame(), source, SOURCE, luma, LUMA, chroma, CHROMA);
 }
 
 static ayresokum_checked check(void)
 {
-    return ayresokum_check(SETTINGS, FRAME, source, SOURCE, luma, LUMA, chroma, CHROMA);
+    return ayresokum_check(SETTINGS, whole_frame(), source, SOURCE, luma, LUMA, chroma, CHROMA);
 }
 
 static const char *channel_name(uint32_t channel)
@@ -172,7 +188,7 @@ static void tell_frame(unsigned frame)
         return;
     }
     printf("written; check: ");
-    tell(ayresokum_check(SETTINGS, FRAME, ring_source + frame * SOURCE, SOURCE,
+    tell(ayresokum_check(SETTINGS, whole_frame(), ring_source + frame * SOURCE, SOURCE,
                          ring_luma + frame * LUMA, LUMA, ring_chroma + frame * CHROMA, CHROMA));
 }
 
@@ -187,13 +203,65 @@ static void convert_ring(unsigned spoiled)
             double_sample(11, 20, AYRESOKUM_GREEN);
         memcpy(ring_source + frame * SOURCE, source, sizeof source);
     }
-    ring = ayresokum_convert_ring(SETTINGS, FRAME, RING, ring_source, RING * SOURCE,
+    ring = ayresokum_convert_ring(SETTINGS, whole_frame(), RING, ring_source, RING * SOURCE,
                                   ring_luma, RING * LUMA, ring_chroma, RING * CHROMA);
     printf("\nA ring of %d frames in one call, with the same sample doubled in frame %u alone.\n", RING, spoiled);
     printf("Convert: %u frames written; frame %u ", (unsigned)ring.written, (unsigned)ring.written);
     tell_refusal(ring.refusal, ring.sample);
     for (frame = 0; frame < RING; frame++)
         tell_frame(frame);
+}
+
+static ayresokum_frame window_from(size_t first_row)
+{
+    const ayresokum_frame window = {
+        .width = WINDOW_WIDTH, .height = WINDOW_HEIGHT,
+        .source_stride = WIDTH * 3, .luma_stride = WINDOW_WIDTH, .chroma_stride = WINDOW_WIDTH,
+        .first_column = FIRST_COLUMN, .first_row = first_row, .source_rows = HEIGHT
+    };
+    return window;
+}
+
+/* Luma is that of each pixel by itself, so that a window has what the whole frame has there. */
+static int is_luma_of_whole_frame(void)
+{
+    unsigned row;
+    for (row = 0; row < WINDOW_HEIGHT; row++) {
+        const uint16_t *whole = written_luma + (FIRST_ROW + row) * WIDTH + FIRST_COLUMN;
+        if (memcmp(window_luma + row * WINDOW_WIDTH, whole, WINDOW_WIDTH * sizeof *whole) != 0)
+            return 0;
+    }
+    return 1;
+}
+
+/* Converts a window and, where it is not refused, checks it. */
+static void tell_window(ayresokum_frame window)
+{
+    const size_t luma_length = WINDOW_HEIGHT * WINDOW_WIDTH, chroma_length = WINDOW_HEIGHT / 2 * WINDOW_WIDTH;
+    const ayresokum_converted c = ayresokum_convert(SETTINGS, window, source, SOURCE,
+                                                    window_luma, luma_length, window_chroma, chroma_length);
+    printf("Convert: ");
+    if (c.refusal) {
+        tell_refusal(c.refusal, c.sample);
+        return;
+    }
+    printf("written, luma %s; check: ", is_luma_of_whole_frame() ? "as in the whole frame" : "otherwise than in the whole frame");
+    tell(ayresokum_check(SETTINGS, window, source, SOURCE, window_luma, luma_length, window_chroma, chroma_length));
+}
+
+static void convert_window(void)
+{
+    draw(0);
+    double_sample(FIRST_ROW, FIRST_COLUMN - 1, AYRESOKUM_RED);
+    double_sample(FIRST_ROW - 1, FIRST_COLUMN, AYRESOKUM_RED);
+    printf("\nA window of %d x %d on the ramp, from column %d and row %d on. Red of the pixels left of its corner and above it is over 1023.\n",
+           WINDOW_WIDTH, WINDOW_HEIGHT, FIRST_COLUMN, FIRST_ROW);
+    tell_window(window_from(FIRST_ROW));
+    double_sample(FIRST_ROW, FIRST_COLUMN, AYRESOKUM_RED);
+    printf("Red of the corner itself is over 1023, too.\n");
+    tell_window(window_from(FIRST_ROW));
+    printf("A window of as many rows from row %d on, where the source has %d.\n", HEIGHT - WINDOW_HEIGHT + 1, HEIGHT);
+    tell_window(window_from(HEIGHT - WINDOW_HEIGHT + 1));
 }
 
 /* Draws and converts a frame; 0 for done. */
@@ -225,5 +293,6 @@ int main(void)
     explain(6, 0);
     change_gain(11, 20, AYRESOKUM_GREEN);
     convert_ring(2);
+    convert_window();
     return 0;
 }

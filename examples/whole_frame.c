@@ -27,7 +27,9 @@ int main(void)
         10, 13, AYRESOKUM_BT601, 0, 0, AYRESOKUM_FULL, AYRESOKUM_YUV420,
         AYRESOKUM_UV, AYRESOKUM_LEAST_SIGNIFICANT, AYRESOKUM_LITTLE_ENDIAN, AYRESOKUM_RGB
     };
-    const ayresokum_frame frame = { 3, 1, 9, 4, 6 };
+    const ayresokum_frame frame = ayresokum_whole((ayresokum_frame){
+        .width = 3, .height = 1, .source_stride = 9, .luma_stride = 4, .chroma_stride = 6
+    });
     uint16_t source[9] = { 1023, 0, 0, 0, 0, 1023, 1023, 1023, 1023 };
     uint16_t luma[4] = { 7, 7, 7, 7 };
     uint16_t chroma[6] = { 7, 7, 7, 7, 7, 7 };

@@ -3,8 +3,8 @@ use crate::{raw, Frame, Refusal, Settings};
 
 /// Writes both planes of the frame, or gives the first refusal that applies and touches neither.
 ///
-/// Every visible element of both planes is written. Padding keeps its old value. Each buffer is exactly as long as
-/// [`Frame::lengths`] says.
+/// Every visible element of both planes is written. Padding keeps its old value. What lies outside the window is not read, and
+/// pairs and blocks of pixels count from its corner. Each buffer is exactly as long as [`Frame::lengths`] says.
 ///
 /// ```
 /// use ayresokum::{convert, Frame, Settings, YuvChromaSubsampling, YuvRange, YuvSourceChannels, YuvStandardMatrix};

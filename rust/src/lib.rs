@@ -15,7 +15,8 @@
 //!
 //! ```
 //! use ayresokum::{
-//!     convert, Frame, Settings, YuvBytesPacking, YuvChromaSubsampling, YuvRange, YuvSourceChannels, YuvStandardMatrix,
+//!     convert, Frame, Settings, Strides, YuvBytesPacking, YuvChromaSubsampling, YuvRange, YuvSourceChannels,
+//!     YuvStandardMatrix,
 //! };
 //!
 //! let settings = Settings {
@@ -28,7 +29,7 @@
 //!         YuvSourceChannels::Rgb,
 //!     )
 //! };
-//! let frame = Frame { width: 3, height: 1, source_stride: 9, luma_stride: 4, chroma_stride: 6 };
+//! let frame = Frame::whole(3, 1, Strides { source: 9, luma: 4, chroma: 6 });
 //! let source = [1023, 0, 0, 0, 0, 1023, 1023, 1023, 1023];
 //! let (mut luma, mut chroma) = ([7; 4], [7; 6]);
 //!
@@ -69,6 +70,39 @@
 //! # Ok::<(), ayresokum::Refusal>(())
 //! ```
 //!
+//! # A window on a sensor
+//!
+//! A frame may be a strip of its source. Pairs and blocks of pixels count from the strip's corner, so that the planes are those
+//! of the strip cut out of the source, and what lies outside it is never read.
+//!
+//! ```
+//! use ayresokum::{
+//!     check, convert, Checked, Frame, Settings, Strides, Window, YuvChromaSubsampling, YuvRange, YuvSourceChannels,
+//!     YuvStandardMatrix,
+//! };
+//!
+//! let settings = Settings::new(
+//!     10,
+//!     YuvStandardMatrix::Bt709,
+//!     YuvRange::Limited,
+//!     YuvChromaSubsampling::Yuv420,
+//!     YuvSourceChannels::Rgb,
+//! );
+//! // White on a sensor of 6 × 5 pixels, whose other pixels have samples that are no samples of 10 bits.
+//! let mut sensor = vec![u16::MAX; 5 * 6 * 3];
+//! for row in 1..3 {
+//!     sensor[(row * 6 + 3) * 3..][..2 * 3].fill(1023);
+//! }
+//! let strip = Window { first_column: 3, first_row: 1, width: 2, height: 2 };
+//! let frame = Frame::window(strip, 5, Strides { source: 6 * 3, luma: 2, chroma: 2 });
+//! let (mut luma, mut chroma) = ([0; 4], [0; 2]);
+//! convert(&settings, &frame, &sensor, &mut luma, &mut chroma)?;
+//! assert_eq!(luma, [940 << 6; 4]);
+//! assert_eq!(chroma, [512 << 6; 2]);
+//! assert_eq!(check(&settings, &frame, &sensor, &luma, &chroma)?, Checked::Accepted);
+//! # Ok::<(), ayresokum::Refusal>(())
+//! ```
+//!
 //! # Refusals
 //!
 //! No input panics and none is undefined. What is not taken is refused, by the first reason that applies.
@@ -89,7 +123,8 @@
 //! ```
 //!
 //! A sample above m is refused with its place, so that nobody has to search the frame after a gain change. The first one counts,
-//! row by row, and in a pixel red before green before blue. [`convert`](convert()) and [`check`](check()) name the same one.
+//! row by row from the window's corner, and in a pixel red before green before blue. [`convert`](convert()) and
+//! [`check`](check()) name the same one.
 //!
 //! ```
 //! use ayresokum::{
@@ -188,7 +223,7 @@ mod weights;
 
 pub use check::{check, Checked, Place, Plane};
 pub use convert::convert;
-pub use frame::Lengths;
+pub use frame::{Lengths, Strides, Window};
 pub use image::YuvBiPlanarImageMut;
 pub use names::*;
 pub use raw::Frame;

@@ -10,9 +10,11 @@
 //! - Refused, where yuvutils-rs goes on: a custom pair that is not positive, a code or a sample out of range, a buffer that is
 //!   longer than stride × rows or lacks the padding of its last row.
 //! - The error is a [`Refusal`], which names the first sample out of range, and the planes of a refused call are untouched.
+//!
+//! The image is made from the whole source; for a window on it call [`convert`](crate::convert()).
 use crate::{
-    convert, Frame, Refusal, Settings, YuvBiPlanarImageMut, YuvChromaSubsampling, YuvRange,
-    YuvSourceChannels, YuvStandardMatrix,
+    convert, Frame, Refusal, Settings, Strides, YuvBiPlanarImageMut, YuvChromaSubsampling,
+    YuvRange, YuvSourceChannels, YuvStandardMatrix,
 };
 
 fn convert_image(
@@ -21,13 +23,12 @@ fn convert_image(
     rgb: &[u16],
     rgb_stride: u32,
 ) -> Result<(), Refusal> {
-    let frame = Frame {
-        width: image.width as usize,
-        height: image.height as usize,
-        source_stride: rgb_stride as usize,
-        luma_stride: image.y_stride as usize,
-        chroma_stride: image.uv_stride as usize,
+    let strides = Strides {
+        source: rgb_stride as usize,
+        luma: image.y_stride as usize,
+        chroma: image.uv_stride as usize,
     };
+    let frame = Frame::whole(image.width as usize, image.height as usize, strides);
     convert(settings, &frame, rgb, image.y_plane, image.uv_plane)
 }
 

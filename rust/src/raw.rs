@@ -4,7 +4,7 @@
 //! and function of the interface written once. docs/BOUNDARY.md lists where else they stand.
 
 /// The interface that this file declares: the header's AYRESOKUM_VERSION.
-pub const VERSION: u32 = 1;
+pub const VERSION: u32 = 2;
 
 /// Settings with numbers in place of the enumerations.
 #[repr(C)]
@@ -23,22 +23,30 @@ pub struct SettingsNumbers {
     pub channels: u32,
 }
 
-/// A frame's size in pixels, and the strides of its buffers in u16 elements.
+/// A window on a source: its size in pixels, the strides of the buffers in u16 elements, its corner, and the rows of the source.
 ///
-/// Elements past the visible ones of a row are padding: never read in the source, never written in a plane.
+/// A frame is whole where its corner is 0, 0 and the source has as many rows as the frame. What lies outside the window is
+/// never read. Elements of a plane past the visible ones of a row are padding, and never written.
 #[repr(C)]
 #[derive(Debug, Clone, Copy, PartialEq, Eq)]
 pub struct Frame {
-    /// Pixels in a row: 1 to 16,384.
+    /// Pixels in a row of the window: 1 to 16,384.
     pub width: usize,
-    /// Rows: 1 to 16,384.
+    /// Rows of the window: 1 to 16,384.
     pub height: usize,
-    /// From one source row to the next: at most 65,536, as are the other two.
+    /// From one source row to the next: at least the pixels before the window and those of its width, and at most 65,536,
+    /// as are the other two.
     pub source_stride: usize,
     /// From one luma row to the next.
     pub luma_stride: usize,
     /// From one chroma row to the next.
     pub chroma_stride: usize,
+    /// Pixels of a source row before the window: at most 16,384.
+    pub first_column: usize,
+    /// Rows of the source before the window: at most 16,384.
+    pub first_row: usize,
+    /// Rows of the source in all: at least those before the window and its height, and at most 16,384.
+    pub source_rows: usize,
 }
 
 /// The refusal's number, or 0, and the weights of red, green and blue in luma, in Cb and in Cr, all 0 on a refusal.
@@ -49,7 +57,8 @@ pub struct SettledNumbers {
     pub weights: [i32; 9],
 }
 
-/// Where a sample of the source stands: its row, its pixel in the row, and its channel, 0 red, 1 green or 2 blue.
+/// Where a sample of the source stands: its row and its pixel in the row, counted from the window's corner, and its channel, 0
+/// red, 1 green or 2 blue.
 #[repr(C)]
 #[derive(Debug, Clone, Copy, PartialEq, Eq)]
 pub struct SampleNumbers {
@@ -239,7 +248,7 @@ mod tests {
 
     #[test]
     #[should_panic(
-        expected = "libayresokum has interface 0, and this crate was written for 1: build both from one commit"
+        expected = "libayresokum has interface 0, and this crate was written for 2: build both from one commit"
     )]
     fn another_version() {
         assert_version(0);

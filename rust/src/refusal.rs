@@ -6,9 +6,10 @@ use std::fmt;
 
 /// The first reason why a call was refused.
 ///
-/// They apply in the order of their numbers, but [`Refusal::Unnamed`] comes before all others, and [`Refusal::Count`] between
-/// [`Refusal::Stride`] and [`Refusal::Length`]. A refused call has touched no buffer, but for the frames that
-/// [`convert_ring`](crate::convert_ring()) wrote before the refused one.
+/// They apply in the order of their numbers, but [`Refusal::Unnamed`] comes before all others, [`Refusal::Window`] between
+/// [`Refusal::Size`] and [`Refusal::Stride`], and [`Refusal::Count`] between [`Refusal::Stride`] and [`Refusal::Length`]. A
+/// refused call has touched no buffer, but for the frames that [`convert_ring`](crate::convert_ring()) wrote before the
+/// refused one.
 #[derive(Debug, Clone, Copy, PartialEq, Eq, Hash)]
 pub enum Refusal {
     /// The depth is not 10 to 16.
@@ -25,22 +26,27 @@ pub enum Refusal {
     CustomUnchecked,
     /// The width or height is 0 or over 16,384.
     Size,
-    /// A stride is too short or over 65,536.
+    /// A stride is too short or over 65,536. That of the source has to cover the pixels before the window and those of its
+    /// width, that of a plane the visible row.
     Stride,
-    /// A buffer has not the exact length: stride × rows, in a ring count × stride × rows.
+    /// A buffer has not the exact length: stride × rows, in a ring count × stride × rows. The source has all of its rows, also
+    /// those outside the window.
     Length,
     /// A visible colour sample of the source is above m. This is where the first one stands: row by row, in a row pixel by
     /// pixel, in a pixel red before green before blue, whatever the channel layout.
     TooLarge(SourcePlace),
     /// The count of a ring's frames is not 1 to 64.
     Count,
+    /// The window's first column, its first row or the count of source rows is over 16,384, or the source ends above the
+    /// window's last row.
+    Window,
     /// A number names no case of its enumeration. The types of this crate rule it out.
     Unnamed,
 }
 
 impl Refusal {
     /// The refusals that carry nothing.
-    const PLAIN: [Refusal; 11] = [
+    const PLAIN: [Refusal; 12] = [
         Refusal::Depth,
         Refusal::Precision,
         Refusal::CustomPair,
@@ -51,6 +57,7 @@ impl Refusal {
         Refusal::Stride,
         Refusal::Length,
         Refusal::Count,
+        Refusal::Window,
         Refusal::Unnamed,
     ];
 
@@ -68,6 +75,7 @@ impl Refusal {
             Refusal::Length => 9,
             Refusal::TooLarge(_) => 10,
             Refusal::Count => 11,
+            Refusal::Window => 12,
             Refusal::Unnamed => 18,
         }
     }
@@ -109,12 +117,17 @@ impl Refusal {
             }
             Refusal::CustomUnchecked => "check only: the matrix is custom",
             Refusal::Size => "width or height is 0 or over 16,384",
-            Refusal::Stride => "a stride is shorter than its visible row or over 65,536",
+            Refusal::Stride => {
+                "a stride is shorter than its visible row, the source's than first column + width, or over 65,536"
+            }
             Refusal::Length => {
                 "a buffer's length is not exactly stride × rows, in a ring count × stride × rows"
             }
             Refusal::TooLarge(_) => "a visible colour sample of the source exceeds m",
             Refusal::Count => "the count of frames is not 1 to 64",
+            Refusal::Window => {
+                "first column, first row or source rows are over 16,384, or first row + height is over the source rows"
+            }
             Refusal::Unnamed => "a number names no case of its enumeration",
         }
     }

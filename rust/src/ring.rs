@@ -34,8 +34,8 @@ impl Error for RingEnded {}
 
 /// Converts a ring: `count` frames, 1 to 64, that lie end to end in the source and in both planes.
 ///
-/// The frames have equal settings, sizes and strides. Each has the lengths that [`Frame::lengths`] says, so that each buffer
-/// is exactly `count` times as long. The outcome is that of [`convert`](crate::convert()) for one frame after the other: `Ok`
+/// The frames have equal settings, sizes, strides and windows. Each has the lengths that [`Frame::lengths`] says, so that each
+/// buffer is exactly `count` times as long: the source of each frame has all of its rows. The outcome is that of [`convert`](crate::convert()) for one frame after the other: `Ok`
 /// says that every frame is written. A sample that is too large ends the ring at its frame. The frames before it are
 /// written, its own parts of both planes and those of all frames after it are as they were, and [`RingEnded`] says how many
 /// were written. Every other refusal, one for the lengths of the buffers among them, is given before any frame is written.

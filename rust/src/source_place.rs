@@ -2,7 +2,7 @@
 use crate::raw::SampleNumbers;
 use std::fmt;
 
-/// Where a sample of the source stands. Rows and pixels count from 0.
+/// Where a sample of the source stands. Rows and pixels count from 0 at the window's corner.
 #[derive(Debug, Clone, Copy, PartialEq, Eq, Hash)]
 pub struct SourcePlace {
     /// Its row.

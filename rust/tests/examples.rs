@@ -1,7 +1,7 @@
 //! Document 01's examples and both sides of its limits, by the crate's functions.
 use ayresokum::{
     check, convert, settle, Channel, Checked, Frame, Place, Plane, Refusal, Settings, SourcePlace,
-    YuvBytesPacking, YuvChromaSubsampling, YuvRange, YuvSourceChannels, YuvStandardMatrix,
+    Strides, YuvBytesPacking, YuvChromaSubsampling, YuvRange, YuvSourceChannels, YuvStandardMatrix,
 };
 
 /// "J" as 4:2:0, RGB, UV, least significant, little endian.
@@ -47,18 +47,17 @@ fn weights_of_j() {
 
 #[test]
 fn whole_frames() {
-    let one = Frame {
-        width: 3,
-        height: 1,
-        source_stride: 9,
-        luma_stride: 4,
-        chroma_stride: 6,
+    let strides = Strides {
+        source: 9,
+        luma: 4,
+        chroma: 6,
     };
+    let one = Frame::whole(3, 1, strides);
     let planes = converted(&J, &one, &ROW).unwrap();
     assert_eq!(planes.luma, [306, 117, 1023, 7]);
     assert_eq!(planes.chroma, [682, 726, 512, 512, 7, 7]);
 
-    let two = Frame { height: 2, ..one };
+    let two = Frame::whole(3, 2, strides);
     let planes = converted(&J, &two, &[ROW, ROW].concat()).unwrap();
     assert_eq!(planes.luma, [306, 117, 1023, 7, 306, 117, 1023, 7]);
     assert_eq!(planes.chroma, [682, 726, 512, 512, 7, 7]);

@@ -12,7 +12,7 @@ const PLACE: SourcePlace = SourcePlace {
 };
 
 /// Every refusal with its number and its text.
-const ALL: [(Refusal, u32, &str); 12] = [
+const ALL: [(Refusal, u32, &str); 13] = [
     (Refusal::Depth, 1, "refusal 1: depth is not 10 to 16"),
     (Refusal::Precision, 2, "refusal 2: P is not 1 to 13"),
     (
@@ -43,7 +43,7 @@ const ALL: [(Refusal, u32, &str); 12] = [
     (
         Refusal::Stride,
         8,
-        "refusal 8: a stride is shorter than its visible row or over 65,536",
+        "refusal 8: a stride is shorter than its visible row, the source's than first column + width, or over 65,536",
     ),
     (
         Refusal::Length,
@@ -59,6 +59,11 @@ const ALL: [(Refusal, u32, &str); 12] = [
         Refusal::Count,
         11,
         "refusal 11: the count of frames is not 1 to 64",
+    ),
+    (
+        Refusal::Window,
+        12,
+        "refusal 12: first column, first row or source rows are over 16,384, or first row + height is over the source rows",
     ),
     (
         Refusal::Unnamed,

@@ -1,6 +1,6 @@
 //! Rings by the crate's function: 64 frames, a refused one at either end and between, the limits of the count and of the lengths.
 use ayresokum::{
-    convert, convert_ring, Channel, Frame, Refusal, RingEnded, Settings, SourcePlace,
+    convert, convert_ring, Channel, Frame, Refusal, RingEnded, Settings, SourcePlace, Strides,
     YuvChromaSubsampling, YuvRange, YuvSourceChannels, YuvStandardMatrix,
 };
 
@@ -13,13 +13,15 @@ const SETTINGS: Settings = Settings::new(
     YuvSourceChannels::Rgb,
 );
 /// Padding in every buffer, an odd width and an odd height.
-const FRAME: Frame = Frame {
-    width: 5,
-    height: 3,
-    source_stride: 17,
-    luma_stride: 6,
-    chroma_stride: 9,
-};
+const FRAME: Frame = Frame::whole(
+    5,
+    3,
+    Strides {
+        source: 17,
+        luma: 6,
+        chroma: 9,
+    },
+);
 /// The word that both planes hold before a call.
 const OLD: u16 = 7;
 

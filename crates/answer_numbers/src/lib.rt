@@ -106,6 +106,7 @@ fn sample_of(r: Refusal) -> SourcePlace
         Refusal::Length => no_sample(),
         Refusal::TooLarge(p) => p,
         Refusal::Count => no_sample(),
+        Refusal::Window => no_sample(),
     }
 }
 

@@ -18,7 +18,7 @@ use Rattle.answer_numbers.specs.AnswerNumbers.{unnamed, weightless, settledNumb
 
 -- the number of the interface; it changes whenever a function's arguments or the layout of a record do
 abbrev pub version : ℕ
-version = 1
+version = 2
 
 -- the case of an enumeration that stands for a service's answer, as numbers; one case does
 pub record Told {A P R : Type 0} (paper : A → P) (numbers : A → R) (answer : P) (r : R) : Type 0 where

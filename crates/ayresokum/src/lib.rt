@@ -15,7 +15,7 @@ use rules::Frame;
 pub extern "C" fn ayresokum_version() -> u32
     ensures { λ r. ⌜ r ≡ version ⌝ }
 {
-    1
+    2
 }
 
 #[no_mangle]

@@ -5,7 +5,7 @@ use numbers::SettingsNumbers;
 use rules::Frame;
 use rules::YuvBias;
 
-// Settings and a frame by numbers; the lengths of the buffers; a seed for the samples, 0 for document 01's row; and one sample
+// Settings and a frame by numbers, whose window is last; the lengths of the buffers; a seed for the samples, 0 for document 01's row; and one sample
 // put at an index.
 pub struct Case {
     pub depth: u32,
@@ -28,6 +28,9 @@ pub struct Case {
     pub seed: u32,
     pub at: usize,
     pub sample: u16,
+    pub first_column: usize,
+    pub first_row: usize,
+    pub source_rows: usize,
 }
 
 // J of document 01 at 4:2:0, RGB, UV, least-significant, little endian, with its 3×1 frame.
@@ -55,6 +58,9 @@ pub fn base() -> Case
         seed: 0,
         at: 65540,
         sample: 0,
+        first_column: 0,
+        first_row: 0,
+        source_rows: 1,
     }
 }
 
@@ -119,6 +125,9 @@ pub fn frame_of(c: Case) -> Frame
         source_stride: c.source_stride,
         luma_stride: c.luma_stride,
         chroma_stride: c.chroma_stride,
+        first_column: c.first_column,
+        first_row: c.first_row,
+        source_rows: c.source_rows,
     }
 }
 
@@ -172,11 +181,27 @@ pub fn laid(c: Case, width: usize, height: usize, pad: usize) -> Case
     let mut d = c;
     d.width = width;
     d.height = height;
+    d.source_rows = height;
     d.source_stride = first_element(c.channels, width) + pad;
     d.luma_stride = width + pad;
     d.chroma_stride = chroma_width(c.subsampling, width) + pad;
     d.source = area(d.source_stride, height);
     d.luma = area(d.luma_stride, height);
     d.chroma = area(d.chroma_stride, chroma_height(c.subsampling, height));
+    d
+}
+
+// A frame of that size as a window on a larger source: so many columns lie left and right of it, and so many rows above and below it.
+pub fn windowed(c: Case, left: usize, right: usize, above: usize, below: usize, pad: usize) -> Case
+    requires { ⌜ (c .width ≤ 64) × (c .height ≤ 64) ⌝ }
+    requires { ⌜ (left ≤ 64) × (right ≤ 64) × (above ≤ 64) × (below ≤ 64) × (pad ≤ 9) ⌝ }
+    ensures { λ r. ⌜ (r .width ≡ c .width) × (r .height ≡ c .height) ⌝ }
+{
+    let mut d = c;
+    d.first_column = left;
+    d.first_row = above;
+    d.source_rows = above + c.height + below;
+    d.source_stride = first_element(c.channels, left + c.width + right) + pad;
+    d.source = area(d.source_stride, d.source_rows);
     d
 }

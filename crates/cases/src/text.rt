@@ -45,7 +45,7 @@ pub fn small(n: u32) -> usize
     n as usize
 }
 
-// A case, as its fields come.
+// A case, as its fields come, but for the window.
 pub fn case(c: Case) -> usize
     ensures { λ r. ⌜ r ≡ 20 ⌝ }
 {
@@ -72,6 +72,13 @@ pub fn case(c: Case) -> usize
         small(c.sample as u32),
     ];
     line(b"case", &numbers)
+}
+
+// The window of a case: its corner, and how many rows the source has.
+pub fn window(c: Case) -> usize
+    ensures { λ r. ⌜ r ≡ 3 ⌝ }
+{
+    line(b"window", &[c.first_column, c.first_row, c.source_rows])
 }
 
 // A refusal, or 0, with the sample that refusal 10 carries.

@@ -1,4 +1,4 @@
-// Refusals 7 to 10: the first that applies to a frame and its buffers.
+// Refusals 7, 12 and 8 to 10: the first that applies to a frame and its buffers.
 ghost use mathlib.Core.Path.{_≡_};
 ghost use Rattle.rules.specs.Refusals.{first, lineOf};
 ghost use Rattle.rules.specs.Frames.{placeLine, frameLines};
@@ -31,7 +31,7 @@ fn place_verdict(found: Search) -> Verdict
     }
 }
 
-// The first of refusals 7 to 10 that applies to a frame and its buffers, or none.
+// The first of refusals 7, 12 and 8 to 10 that applies to a frame and its buffers, or none.
 pub fn frame_verdict(s: Settings, f: Frame, source: &[u16], luma: usize, chroma: usize) -> Verdict
     requires { ⌜ Reach s ⌝ }
     ensures exact { λ r. ⌜ lineOf r ≡ first (frameLines s f (now (source .entry)) luma chroma) ⌝ }
@@ -39,6 +39,9 @@ pub fn frame_verdict(s: Settings, f: Frame, source: &[u16], luma: usize, chroma:
 {
     if layout_refusals::size_off(f) {
         return Verdict::Refuses(Refusal::Size);
+    }
+    if layout_refusals::window_off(f) {
+        return Verdict::Refuses(Refusal::Window);
     }
     if layout_refusals::stride_off(s, f) {
         return Verdict::Refuses(Refusal::Stride);

@@ -2,16 +2,16 @@
 ghost use mathlib.Core.Path.{_≡_};
 ghost use Prim.Native.Nat.{_≤_};
 ghost use Rattle.rules.specs.Frames.{sourceSize, lumaSize, chromaSize};
-ghost use Rattle.frames.specs.Tests.{Sized, Strided};
+ghost use Rattle.frames.specs.Tests.{Sized, Windowed, Strided};
 use rules::Frame;
 use rules::Settings;
 
 pub fn source_size(s: Settings, f: Frame) -> usize
-    requires { ⌜ (Sized f) × (Strided s f) ⌝ }
+    requires { ⌜ (Windowed f) × (Strided s f) ⌝ }
     ensures { λ r. ⌜ r ≡ sourceSize f ⌝ }
     ensures { λ r. ⌜ r ≤ 1073741824 ⌝ }
 {
-    f.height * f.source_stride
+    f.source_rows * f.source_stride
 }
 
 pub fn luma_size(s: Settings, f: Frame) -> usize

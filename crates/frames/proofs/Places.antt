@@ -2,7 +2,7 @@
 use mathlib.Core.Path.{_≡_, sym, ap, _∙_, subst⁻¹}
 use mathlib.Core.List.{List}
 use Prim.Native.Nat.{ℕ, _+_, _-_, _*_, _≤_, _<_}
-use native.Mathlib.Nat.{add-assoc, add-sub-cancel-left, mul-le-mul}
+use native.Mathlib.Nat.{add-assoc, add-mul, add-sub-cancel-left, mul-le-mul}
 use native.Mathlib.Omega.{arith}
 use lib.Dec.{lit<, lit≤}
 use lib.ListN.{length, getD, take, drop, length-drop}
@@ -13,12 +13,13 @@ use Rattle.rules.specs.declared.Pixel.{Pixel}
 use Rattle.rules.specs.declared.YuvSourceChannels.{YuvSourceChannels}
 use Rattle.rules.specs.declared.YuvSourceChannels.the-variants.{Rgb, Rgba, Bgra, Bgr}
 use Rattle.rules.specs.Ranges.{most}
-use Rattle.rules.specs.Channels.{count, redAt, greenAt, blueAt, pixelAt, picture}
+use Rattle.rules.specs.Channels.{count, redAt, greenAt, blueAt, pixelAt}
+use Rattle.rules.specs.Frames.{window}
 use Rattle.rule_laws.specs.Codes.{Low}
 use Rattle.plane_laws.proofs.Tables.{step-le}
 use Rattle.frames.specs.Rows.{Shows, Convertible}
-use Rattle.frames.specs.SourceRows.{SourceRow}
-use Rattle.frames.specs.Tests.{Sized, Ready}
+use Rattle.frames.specs.SourceRows.{rowStart, SourceRow}
+use Rattle.frames.specs.Tests.{Sized, Windowed, Ready}
 
 -- the colour samples are the first three of a pixel
 pub record Places (c : YuvSourceChannels) : Type 0 where
@@ -34,9 +35,9 @@ places Rgba = record { red = lit< tt; green = lit< tt; blue = lit< tt; least = l
 places Bgra = record { red = lit< tt; green = lit< tt; blue = lit< tt; least = lit≤ tt; most = lit≤ tt }
 places Bgr = record { red = lit< tt; green = lit< tt; blue = lit< tt; least = lit≤ tt; most = lit≤ tt }
 
--- a row of the greatest width
-pub row-small : (f : Frame) (c : YuvSourceChannels) → Sized f → f .width * count c ≤ 65536
-row-small f c h = mul-le-mul (h .narrow) (places c .most)
+-- a row of the greatest width, past the greatest first column
+pub row-small : (f : Frame) (c : YuvSourceChannels) → Sized f → Windowed f → (f .«first_column» + f .width) * count c ≤ 131072
+row-small f c h w = mul-le-mul (let k : f .«first_column» + f .width ≤ 32768 = omega (arith, h .narrow, w .left) in k) (places c .most)
 
 -- the pixel by places that were worked out
 pub same-pixel : (c : YuvSourceChannels) (source : List ℕ) (at : ℕ) {i j k : ℕ} → i ≡ redAt c → j ≡ greenAt c → k ≡ blueAt c
@@ -54,23 +55,33 @@ pixel-part c source a n at h =
         ∙ getD-drop a source (at + k) 0
         ∙ ap (λ (m : ℕ). getD source m 0) (sym (add-assoc a at k))
 
--- a part that starts at row × stride shows that row of the source's picture
-pub part-shows : (c : YuvSourceChannels) (source : List ℕ) (stride width row n : ℕ) → width * count c ≤ n
-    → Shows c (take n (drop (row * stride) source)) (picture c stride source) row width
-part-shows c source stride width row n h =
-    record { same = λ x l. pixel-part c source (row * stride) n (x * count c) (step-le x width (count c) n l h) }
+-- pixel x of a row stands so many pixels after the first
+pub pixel-place : (c : YuvSourceChannels) (f : Frame) (row x : ℕ) → rowStart c f row + x * count c ≡ (f .«first_row» + row) * f .«source_stride» + (f .«first_column» + x) * count c
+pixel-place c f row x =
+    add-assoc ((f .«first_row» + row) * f .«source_stride») (f .«first_column» * count c) (x * count c)
+    ∙ ap (λ (n : ℕ). (f .«first_row» + row) * f .«source_stride» + n) (sym (add-mul (f .«first_column») x (count c)))
 
--- a part that ends with the visible row is as long as it, by a count of channels that was worked out
-pub visible-long : (a width : ℕ) (c : YuvSourceChannels) {k : ℕ} → k ≡ count c → a + width * k - a ≡ width * count c
-visible-long a width c {k} e = add-sub-cancel-left a (width * k) ∙ ap (λ (n : ℕ). width * n) e
+-- a part that starts where a row of the window starts shows that row
+pub part-shows : (c : YuvSourceChannels) (f : Frame) (source : List ℕ) (row n : ℕ) → f .width * count c ≤ n
+    → Shows c (take n (drop (rowStart c f row) source)) (window c f source) row (f .width)
+part-shows c f source row n h =
+    record {
+      same = λ x l.
+      pixel-part c source (rowStart c f row) n (x * count c) (step-le x (f .width) (count c) n l h)
+      ∙ ap (pixelAt c source) (pixel-place c f row x);
+    }
 
--- the part that starts at row × stride and ends with the visible row
-pub source-row : (c : YuvSourceChannels) (f : Frame) (source : List ℕ) (row n : ℕ) → n ≡ f .width * count c → row * f .«source_stride» + f .width * count c ≤ length source
-    → SourceRow c f source row (take n (drop (row * f .«source_stride») source))
-source-row c f source row n exact fits =
-    let rest = length-drop (row * f .«source_stride») source in
-    let long = length-take-le n (drop (row * f .«source_stride») source) (omega arith) in
-    record { long = omega arith; shows = part-shows c source (f .«source_stride») (f .width) row n (omega arith) }
+-- the part that starts there and ends with the visible row, by a count of channels that was worked out
+pub source-row : (c : YuvSourceChannels) (f : Frame) (source : List ℕ) (row : ℕ) {k : ℕ} → k ≡ count c → rowStart c f row + f .width * count c ≤ length source
+    → let a = (f .«first_row» + row) * f .«source_stride» + f .«first_column» * k in SourceRow c f source row (take (a + f .width * k - a) (drop a source))
+source-row c f source row {k} e fits =
+    subst⁻¹ (λ (k : ℕ). let a = (f .«first_row» + row) * f .«source_stride» + f .«first_column» * k in SourceRow c f source row (take (a + f .width * k - a) (drop a source))) e
+    (let a = rowStart c f row in
+    let n = a + f .width * count c - a in
+    let exact = add-sub-cancel-left a (f .width * count c) in
+    let rest = length-drop a source in
+    let long = length-take-le n (drop a source) (omega arith) in
+    record { long = omega arith; shows = part-shows c f source row n (omega arith) })
 
 -- a row of a source that is ready can be converted
 pub convertible : {s : Settings} {f : Frame} {source : List ℕ} {luma chroma row : ℕ} {part : List ℕ} → Ready s f source luma chroma → row < f .height → SourceRow (s .channels) f source row part

@@ -1,9 +1,10 @@
-// Refusals 7, 8, 11 and 9: the size, the strides, the count of frames and the lengths, a function for each. No sum or product can wrap.
+// Refusals 7, 12, 8, 11 and 9: the size, the window, the strides, the count of frames and the lengths, a function for each. No sum or
+// product can wrap.
 ghost use mathlib.Core.Path.{_≡_};
 ghost use Prim.Native.Nat.{_≤_};
 ghost use Rattle.rules.specs.Refusals.{outside};
-ghost use Rattle.rules.specs.Frames.{sizeOff, strideOff, lengthOff};
-ghost use Rattle.frames.specs.Tests.{Sized, Strided};
+ghost use Rattle.rules.specs.Frames.{sizeOff, windowOff, strideOff, lengthOff};
+ghost use Rattle.frames.specs.Tests.{Sized, Windowed, Strided};
 use rules::Frame;
 use rules::Settings;
 use yuv_support::channels;
@@ -28,15 +29,32 @@ pub fn size_off(f: Frame) -> bool
     outside(1, 16384, f.height)
 }
 
+// Refusal 12. The first row is tested before the height is added to it.
+pub fn window_off(f: Frame) -> bool
+    requires { ⌜ Sized f ⌝ }
+    ensures { λ r. ⌜ r ≡ windowOff f ⌝ }
+{
+    if outside(0, 16384, f.first_column) {
+        return true;
+    }
+    if outside(0, 16384, f.first_row) {
+        return true;
+    }
+    if outside(0, 16384, f.source_rows) {
+        return true;
+    }
+    f.source_rows < f.first_row + f.height
+}
+
 // Refusal 8.
 pub fn stride_off(s: Settings, f: Frame) -> bool
-    requires { ⌜ Sized f ⌝ }
+    requires { ⌜ (Sized f) × (Windowed f) ⌝ }
     ensures { λ r. ⌜ r ≡ strideOff s f ⌝ }
 {
     let channels = s.channels;
     let subsampling = s.subsampling;
-    let visible = f.width * channels::get_channels_count(channels);
-    if outside(visible, 65536, f.source_stride) {
+    let covered = (f.first_column + f.width) * channels::get_channels_count(channels);
+    if outside(covered, 65536, f.source_stride) {
         return true;
     }
     if outside(f.width, 65536, f.luma_stride) {
@@ -65,7 +83,7 @@ pub fn length_off(
     luma: usize,
     chroma: usize,
 ) -> bool
-    requires { ⌜ (Sized f) × (Strided s f) ⌝ }
+    requires { ⌜ (Sized f) × ((Windowed f) × (Strided s f)) ⌝ }
     requires { ⌜ count ≤ 64 ⌝ }
     ensures { λ r. ⌜ r ≡ lengthOff s f count source luma chroma ⌝ }
 {

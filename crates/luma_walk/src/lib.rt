@@ -1,10 +1,9 @@
 // The walk through luma, row by row and element by element, left at the first wrong sample.
 ghost use mathlib.Core.Path.{_≡_};
-ghost use Prim.Native.Nat.{_*_};
 ghost use lib.ListN.{length};
-ghost use Rattle.rules.specs.Channels.{count};
 ghost use Rattle.rule_laws.specs.Usable.{Reach};
 ghost use Rattle.frames.specs.Rows.{Rows};
+ghost use Rattle.frames.specs.SourceRows.{WindowRows};
 ghost use Rattle.frames.specs.Tests.{Sized};
 ghost use Rattle.check_limits.specs.Limits.{LimitsOf};
 ghost use Rattle.walks.specs.Walks.{wrongLuma};
@@ -28,7 +27,7 @@ pub fn walk_luma(
 ) -> Search
     requires { ⌜ (Reach s) × (LimitsOf s k limits) ⌝ }
     requires { ⌜ Sized f ⌝ }
-    requires { ⌜ Rows (length (now source)) (f .«source_stride») (f .width * count (s .channels)) (f .height) ⌝ }
+    requires { ⌜ WindowRows (s .channels) f (length (now source)) ⌝ }
     requires { ⌜ Rows (length (now luma)) (f .«luma_stride») (f .width) (f .height) ⌝ }
     ensures { λ r. ⌜ r ≡ wrongLuma s k f (now (source .entry)) (now (luma .entry)) ⌝ }
 {

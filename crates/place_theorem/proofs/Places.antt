@@ -21,7 +21,7 @@ use Rattle.rules.specs.Refusals.{outside, Line, refuses, first}
 use Rattle.rules.specs.Search.{FirstWrong, firstFailing}
 use Rattle.rules.specs.Answers.{refused}
 use Rattle.rules.specs.Settle.{pairOff, weightOff, someCodeOff, settleLines}
-use Rattle.rules.specs.Frames.{sizeOff, strideOff, lengthOff, shown, channelOf, lowTest, tooLarge, placeLine, tooLargeLine, frameLines}
+use Rattle.rules.specs.Frames.{sizeOff, windowOff, strideOff, lengthOff, shown, channelOf, lowTest, tooLarge, placeLine, tooLargeLine, frameLines}
 use Rattle.rules.specs.Convert.{verdict, convert}
 use Rattle.rules.specs.Check.{isCustom, check}
 use Rattle.rule_laws.proofs.Refusals.{reached, alone}
@@ -44,7 +44,8 @@ module _ (s : Settings) (v : List ℤ) where
   in-frame : (f : Frame) (source : List ℕ) (luma chroma : ℕ) → first (frameLines s f source luma chroma) ≡ refuses 10 v → tooLargeLine s f source ≡ refuses 10 v
   in-frame f source luma chroma e =
       let size = reached 7 (sizeOff f) _ 10 v refl e in
-      let stride = reached 8 (strideOff s f) _ 10 v refl (size .1) in
+      let corner = reached 12 (windowOff f) _ 10 v refl (size .1) in
+      let stride = reached 8 (strideOff s f) _ 10 v refl (corner .1) in
       let long = reached 9 (lengthOff s f 1 (length source) luma chroma) _ 10 v refl (stride .1) in
       sym (alone (tooLargeLine s f source)) ∙ long .1
 

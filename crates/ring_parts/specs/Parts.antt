@@ -9,11 +9,12 @@ use Rattle.rules.specs.Refusals.{lineOf}
 use Rattle.rules.specs.Frames.{sourceSize, lumaSize, chromaSize}
 use Rattle.rules.specs.Convert.{verdict, lumaAfter, chromaAfter}
 use Rattle.plane_laws.specs.Parts.{part, putPart}
-use Rattle.frames.specs.Tests.{Sized, Strided}
+use Rattle.frames.specs.Tests.{Sized, Windowed, Strided}
 
 -- one of the first 64 frames, which ends within buffers of these lengths
 pub record Lies (s : Settings) (f : Frame) (i sources lumas chromas : ℕ) : Type 0 where
   pub sized : Sized f
+  pub windowed : Windowed f
   pub strided : Strided s f
   pub few : i < 64
   pub source : i * sourceSize f + sourceSize f ≤ sources

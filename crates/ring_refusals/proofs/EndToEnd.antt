@@ -11,7 +11,7 @@ use Rattle.rules.specs.Frames.{sourceSize, lumaSize, chromaSize}
 use Rattle.rules.specs.Ring.{ringLines}
 use Rattle.rule_laws.proofs.Refusals.{bounds, passed-by}
 use Rattle.plane_laws.proofs.Tests.{neither}
-use Rattle.frames.proofs.Tests.{sized, strided}
+use Rattle.frames.proofs.Tests.{sized, windowed, strided}
 use Rattle.ring_refusals.specs.EndToEnd.{EndToEnd}
 
 exact : {long n : ℕ} → not (eqb long n) ≡ false → long ≡ n
@@ -20,7 +20,8 @@ exact {long} {n} h = eqb-true long n (not-false (eqb long n) h)
 pub end-to-end : (s : Settings) (f : Frame) (count source luma chroma : ℕ) → first (ringLines s f count source luma chroma) ≡ passes → EndToEnd s f count source luma chroma
 end-to-end s f count source luma chroma h =
     let size = passed-by _ _ _ h in
-    let stride = passed-by _ _ _ (size .1) in
+    let corner = passed-by _ _ _ (size .1) in
+    let stride = passed-by _ _ _ (corner .1) in
     let many = passed-by _ _ _ (stride .1) in
     let long = passed-by _ _ _ (many .1) in
     let a = not (eqb source (count * sourceSize f)) in
@@ -30,6 +31,7 @@ end-to-end s f count source luma chroma h =
     let l = neither b c (k .1) in
     record {
       sized = sized f (size .0);
+      windowed = windowed f (corner .0);
       strided = strided s f (stride .0);
       few = bounds 1 64 count (many .0) .1;
       source = exact (k .0);

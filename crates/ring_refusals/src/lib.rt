@@ -1,4 +1,4 @@
-// Refusals 7, 8, 11 and 9 of frames laid end to end: the first that applies to all of them together.
+// Refusals 7, 12, 8, 11 and 9 of frames laid end to end: the first that applies to all of them together.
 ghost use mathlib.Core.Path.{_≡_};
 ghost use Rattle.rules.specs.Refusals.{first, lineOf};
 ghost use Rattle.rules.specs.Ring.{ringLines};
@@ -7,7 +7,7 @@ use rules::Refusal;
 use rules::Settings;
 use rules::Verdict;
 
-// The first of refusals 7, 8, 11 and 9 that applies to so many frames and buffers of these lengths, or none.
+// The first of refusals 7, 12, 8, 11 and 9 that applies to so many frames and buffers of these lengths, or none.
 pub fn ring_verdict(
     s: Settings,
     f: Frame,
@@ -20,6 +20,9 @@ pub fn ring_verdict(
 {
     if layout_refusals::size_off(f) {
         return Verdict::Refuses(Refusal::Size);
+    }
+    if layout_refusals::window_off(f) {
+        return Verdict::Refuses(Refusal::Window);
     }
     if layout_refusals::stride_off(s, f) {
         return Verdict::Refuses(Refusal::Stride);

@@ -20,7 +20,7 @@ use Rattle.ring_theorem.specs.Rings.{ConvertedTo, Written, Accounted, St
 
 -- ---- parts of a buffer, counted from the next one on
 module _ (size : ℕ) where
-  part-first : (xs : List ℕ) → part size 0 xs ≡ take size xs
+  pub part-first : (xs : List ℕ) → part size 0 xs ≡ take size xs
   part-first xs = ap (λ (n : ℕ). take size (drop n xs)) (zero-mul size)
 
   drop-first : (xs : List ℕ) → drop (0 * size) xs ≡ xs
@@ -29,7 +29,7 @@ module _ (size : ℕ) where
   drop-later : (i : ℕ) (xs : List ℕ) → drop (suc i * size) xs ≡ drop (i * size) (drop size xs)
   drop-later i xs = ap (λ (n : ℕ). drop n xs) (suc-mul i size ∙ add-comm (i * size) size) ∙ sym (drop-drop (i * size) size xs)
 
-  part-later : (i : ℕ) (xs : List ℕ) → part size (suc i) xs ≡ part size i (drop size xs)
+  pub part-later : (i : ℕ) (xs : List ℕ) → part size (suc i) xs ≡ part size i (drop size xs)
   part-later i xs = ap (take size) (drop-later i xs)
 
   -- after a part as long as the others

@@ -12,10 +12,10 @@ use Rattle.rules.specs.declared.Frame.{Frame}
 use Rattle.rules.specs.declared.Ringed.{Ringed}
 use Rattle.rules.specs.Refusals.{Line, passes, refuses, earlier, first}
 use Rattle.rules.specs.Settle.{settleLines}
-use Rattle.rules.specs.Frames.{sourceSize, lumaSize, chromaSize, sizeLine, strideLine, lengthLine, tooLargeLine, frameLines}
+use Rattle.rules.specs.Frames.{sourceSize, lumaSize, chromaSize, sizeLine, windowLine, strideLine, lengthLine, tooLargeLine, frameLines}
 use Rattle.rules.specs.Convert.{verdict, lumaAfter, chromaAfter}
 use Rattle.rules.specs.Ring.{untouched, oneThen, unless, ringLines, inTurn, convertRing}
-use Rattle.rule_laws.proofs.Refusals.{parted}
+use Rattle.rule_laws.proofs.Refusals.{earlier-assoc, parted}
 use Rattle.rule_laws.proofs.Answers.{one-ringed}
 use Rattle.ring_refusals.specs.EndToEnd.{EndToEnd}
 use Rattle.ring_refusals.proofs.EndToEnd.{end-to-end}
@@ -60,22 +60,19 @@ module _ (s : Settings) (f : Frame) (count : ℕ) (source luma chroma : List ℕ
 
 -- ---- one frame: the lines of convert are those of a ring of one frame, then refusal 10
 
-earlier-assoc : (k l m : Line) → earlier k (earlier l m) ≡ earlier (earlier k l) m
-earlier-assoc passes l m = refl
-earlier-assoc (refuses n v) l m = refl
-
 after : (ls ms ns : List Line) (t : Line) → first ms ≡ earlier (first ns) t → first (ls ++ ms) ≡ earlier (first (ls ++ ns)) t
 unfolding first
 after [] ms ns t h = h
 after (l ∷ ls) ms ns t h = ap (earlier l) (after ls ms ns t h) ∙ earlier-assoc l (first (ls ++ ns)) t
 
-last-line : (a b c t : Line) → first (a ∷ b ∷ c ∷ t ∷ []) ≡ earlier (first (a ∷ b ∷ passes ∷ c ∷ [])) t
+last-line : (a b c d t : Line) → first (a ∷ b ∷ c ∷ d ∷ t ∷ []) ≡ earlier (first (a ∷ b ∷ c ∷ passes ∷ d ∷ [])) t
 unfolding first
-last-line (refuses n v) b c t = refl
-last-line passes (refuses n v) c t = refl
-last-line passes passes (refuses n v) t = refl
-last-line passes passes passes (refuses n v) = refl
-last-line passes passes passes passes = refl
+last-line (refuses n v) b c d t = refl
+last-line passes (refuses n v) c d t = refl
+last-line passes passes (refuses n v) d t = refl
+last-line passes passes passes (refuses n v) t = refl
+last-line passes passes passes passes (refuses n v) = refl
+last-line passes passes passes passes passes = refl
 
 module _ (s : Settings) (f : Frame) (source luma chroma : List ℕ) where
   abbrev alone : Line
@@ -84,7 +81,7 @@ module _ (s : Settings) (f : Frame) (source luma chroma : List ℕ) where
   by-table : verdict s f source luma chroma ≡ earlier alone (tooLargeLine s f source)
   by-table =
       after (settleLines s) (frameLines s f source (length luma) (length chroma)) (ringLines s f 1 (length source) (length luma) (length chroma)) (tooLargeLine s f source)
-      (last-line (sizeLine f) (strideLine s f) (lengthLine s f 1 (length source) (length luma) (length chroma)) (tooLargeLine s f source))
+      (last-line (sizeLine f) (windowLine f) (strideLine s f) (lengthLine s f 1 (length source) (length luma) (length chroma)) (tooLargeLine s f source))
 
   refused-alone : (n : ℕ) (v : List ℤ) → verdict s f source luma chroma ≡ refuses n v → untouched (refuses n v) luma chroma ≡ converted s f source luma chroma
   refused-alone n v h =

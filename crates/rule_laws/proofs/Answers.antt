@@ -6,7 +6,7 @@ use native.Mathlib.Omega.{arith}
 use lib.IntN.{ℤ, pos, natAbs}
 use lib.ListN.{getD}
 use Rattle.rules.specs.declared.Refusal.{Refusal}
-use Rattle.rules.specs.declared.Refusal.the-variants.{Depth, Precision, CustomPair, WeightOff, CodeOutside, CustomUnchecked, Size, Stride, Length, TooLarge, Count}
+use Rattle.rules.specs.declared.Refusal.the-variants.{Depth, Precision, CustomPair, WeightOff, CodeOutside, CustomUnchecked, Size, Stride, Length, TooLarge, Count, Window}
 use Rattle.rules.specs.declared.SourcePlace.{SourcePlace}
 use Rattle.rules.specs.declared.Weights.{Weights}
 use Rattle.rules.specs.declared.Place.{Place}
@@ -29,7 +29,7 @@ sourcePlaceIn v = record { row = natAbs (getD v 0 (pos 0)); pixel = natAbs (getD
 
 -- in the order of their numbers, from 1 on
 refusals : List ℤ → List Refusal
-refusals v = Depth ∷ Precision ∷ CustomPair ∷ WeightOff ∷ CodeOutside ∷ CustomUnchecked ∷ Size ∷ Stride ∷ Length ∷ TooLarge (sourcePlaceIn v) ∷ Count ∷ []
+refusals v = Depth ∷ Precision ∷ CustomPair ∷ WeightOff ∷ CodeOutside ∷ CustomUnchecked ∷ Size ∷ Stride ∷ Length ∷ TooLarge (sourcePlaceIn v) ∷ Count ∷ Window ∷ []
 
 numbered : ℕ → List ℤ → Refusal
 numbered n v = getD (refusals v) (n - 1) Depth
@@ -47,6 +47,7 @@ numbered-back Stride = refl
 numbered-back Length = refl
 numbered-back (TooLarge p) = refl
 numbered-back Count = refl
+numbered-back Window = refl
 
 abbrev numberIn : Answer → ℕ
 numberIn (given v) = 0

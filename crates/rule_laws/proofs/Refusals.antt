@@ -73,7 +73,7 @@ ended n v e = let h : passes ≡ refuses n v = sym end ∙ e in let z : _≡_ {A
 
 -- ---- one table after another
 
-earlier-assoc : (k l m : Line) → earlier k (earlier l m) ≡ earlier (earlier k l) m
+pub earlier-assoc : (k l m : Line) → earlier k (earlier l m) ≡ earlier (earlier k l) m
 earlier-assoc passes l m = refl
 earlier-assoc (refuses n v) l m = refl
 
@@ -88,6 +88,10 @@ module _ (ls ms : List Line) where
 
   pub refused-before : {n : ℕ} {v : List ℤ} → first ls ≡ refuses n v → first (ls ++ ms) ≡ refuses n v
   refused-before h = first-append ls ms ∙ ap (λ (l : Line). earlier l (first ms)) h
+
+-- two tables that come to the same come to the same after others
+pub after-same : (ls ms ns : List Line) → first ms ≡ first ns → first (ls ++ ms) ≡ first (ls ++ ns)
+after-same ls ms ns h = first-append ls ms ∙ ap (earlier (first ls)) h ∙ sym (first-append ls ns)
 
 -- two tables pass only where each does
 pub parted : (ls ms : List Line) → first (ls ++ ms) ≡ passes → (first ls ≡ passes) × (first ms ≡ passes)

@@ -1,12 +1,13 @@
--- Document 01, refusals 7 to 10: what is asked of a frame and its buffers. Definitions only.
-use Prim.Native.Nat.{ℕ, zero, suc, _*_, _/_, _%_}
+-- Document 01, refusals 7 to 10, and document 02, Four: what is asked of a frame and its buffers, and what is seen of a source. Definitions only.
+use Prim.Native.Nat.{ℕ, zero, suc, _+_, _*_, _/_, _%_}
 use mathlib.Core.Bool.{Bool, not, _||_}
 use mathlib.Core.List.{List, [], _∷_}
-use lib.Dec.{leb, eqb}
+use lib.Dec.{leb, ltb, eqb}
 use lib.ListN.{length}
 use Rattle.rules.specs.declared.Settings.{Settings}
 use Rattle.rules.specs.declared.Frame.{Frame}
 use Rattle.rules.specs.declared.Pixel.{Pixel}
+use Rattle.rules.specs.declared.YuvSourceChannels.{YuvSourceChannels}
 use Rattle.rules.specs.declared.Search.{Search}
 use Rattle.rules.specs.declared.Search.the-variants.{Nothing, At}
 use Rattle.rules.specs.Ranges.{most}
@@ -19,15 +20,21 @@ use Rattle.rules.specs.Search.{Test, firstFailing}
 abbrev pub sizeOff : Frame → Bool
 sizeOff f = outside 1 16384 (f .width) || outside 1 16384 (f .height)
 
--- 8: "a stride is shorter than its visible row or over 65,536"
+-- 12: "a window number over 16,384 or first row + height over the source rows"
+abbrev pub windowOff : Frame → Bool
+windowOff f =
+    outside 0 16384 (f .«first_column»)
+    || (outside 0 16384 (f .«first_row») || (outside 0 16384 (f .«source_rows») || ltb (f .«source_rows») (f .«first_row» + f .height)))
+
+-- 8: "a stride is shorter than its visible row or over 65,536"; 02: "Source stride must cover (first column + width) pixels"
 abbrev pub strideOff : Settings → Frame → Bool
 strideOff s f =
-    outside (f .width * count (s .channels)) 65536 (f .«source_stride»)
+    outside ((f .«first_column» + f .width) * count (s .channels)) 65536 (f .«source_stride»)
     || (outside (f .width) 65536 (f .«luma_stride») || outside (chromaWidth (s .subsampling) (f .width)) 65536 (f .«chroma_stride»))
 
--- "stride × rows": the elements of one frame in the source and in each plane
+-- "stride × rows": the elements of one frame in the source and in each plane; 02: "source length is stride × source rows"
 abbrev pub sourceSize : Frame → ℕ
-sourceSize f = f .height * f .«source_stride»
+sourceSize f = f .«source_rows» * f .«source_stride»
 
 abbrev pub lumaSize : Frame → ℕ
 lumaSize f = f .height * f .«luma_stride»
@@ -40,9 +47,13 @@ abbrev pub lengthOff : Settings → Frame → ℕ → ℕ → ℕ → ℕ → Bo
 lengthOff s f count source luma chroma =
     not (eqb source (count * sourceSize f)) || (not (eqb luma (count * lumaSize f)) || not (eqb chroma (count * chromaSize s f)))
 
+-- "the visible pixels are those of the window": the picture of the whole source, moved by the window's corner
+abbrev pub window : YuvSourceChannels → Frame → List ℕ → Picture
+window c f source row column = picture c (f .«source_stride») source (f .«first_row» + row) (f .«first_column» + column)
+
 -- the picture that the source of a frame shows
 abbrev pub shown : Settings → Frame → List ℕ → Picture
-shown s f source = picture (s .channels) (f .«source_stride») source
+shown s f source = window (s .channels) f source
 
 -- ---- 10: "a visible colour sample of the source exceeds m"
 
@@ -68,6 +79,9 @@ tooLarge m f px = firstFailing (lowTest m px) (3 * f .width) (f .height)
 abbrev pub sizeLine : Frame → Line
 sizeLine f = line 7 (sizeOff f)
 
+abbrev pub windowLine : Frame → Line
+windowLine f = line 12 (windowOff f)
+
 abbrev pub strideLine : Settings → Frame → Line
 strideLine s f = line 8 (strideOff s f)
 
@@ -83,10 +97,10 @@ placeLine (At row i) = refuses 10 (sourceValues row (i / 3) (i % 3))
 abbrev pub tooLargeLine : Settings → Frame → List ℕ → Line
 tooLargeLine s f source = placeLine (tooLarge (most (s .depth)) f (shown s f source))
 
--- what convert and check ask of a frame, in order
+-- what convert and check ask of a frame, in order; 12 comes "directly after 7"
 abbrev pub frameLines : Settings → Frame → List ℕ → ℕ → ℕ → List Line
 frameLines s f source luma chroma =
-    sizeLine f ∷ strideLine s f ∷ lengthLine s f 1 (length source) luma chroma ∷ tooLargeLine s f source ∷ []
+    sizeLine f ∷ windowLine f ∷ strideLine s f ∷ lengthLine s f 1 (length source) luma chroma ∷ tooLargeLine s f source ∷ []
 
 -- what these lines come to, for a source and two planes
 abbrev pub frameLine : Settings → Frame → List ℕ → List ℕ → List ℕ → Line

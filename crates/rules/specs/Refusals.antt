@@ -5,7 +5,7 @@ use mathlib.Core.List.{List, [], _∷_}
 use lib.Dec.{leb}
 use lib.IntN.{ℤ, pos}
 use Rattle.rules.specs.declared.Refusal.{Refusal}
-use Rattle.rules.specs.declared.Refusal.the-variants.{Depth, Precision, CustomPair, WeightOff, CodeOutside, CustomUnchecked, Size, Stride, Length, TooLarge, Count}
+use Rattle.rules.specs.declared.Refusal.the-variants.{Depth, Precision, CustomPair, WeightOff, CodeOutside, CustomUnchecked, Size, Stride, Length, TooLarge, Count, Window}
 use Rattle.rules.specs.declared.Verdict.{Verdict}
 use Rattle.rules.specs.declared.Verdict.the-variants.{Passes, Refuses}
 
@@ -23,6 +23,7 @@ numberOf Stride = 8
 numberOf Length = 9
 numberOf (TooLarge p) = 10
 numberOf Count = 11
+numberOf Window = 12
 
 -- 02: "row, pixel and channel (red before green before blue)"
 abbrev pub sourceValues : ℕ → ℕ → ℕ → List ℤ
@@ -41,6 +42,7 @@ valuesOf Stride = []
 valuesOf Length = []
 valuesOf (TooLarge p) = sourceValues (p .row) (p .pixel) (p .channel)
 valuesOf Count = []
+valuesOf Window = []
 
 -- ---- a table of tests
 

@@ -7,7 +7,7 @@ use Rattle.rules.specs.declared.Frame.{Frame}
 use Rattle.rules.specs.Refusals.{outside, Line, passes, refuses, line, first}
 use Rattle.rules.specs.Answers.{RingAnswer}
 use Rattle.rules.specs.Settle.{settleLines}
-use Rattle.rules.specs.Frames.{sourceSize, lumaSize, chromaSize, sizeLine, strideLine, lengthLine}
+use Rattle.rules.specs.Frames.{sourceSize, lumaSize, chromaSize, sizeLine, windowLine, strideLine, lengthLine}
 use Rattle.rules.specs.Convert.{verdict, lumaAfter, chromaAfter}
 
 -- ---- what is asked "before any frame is written"
@@ -19,7 +19,7 @@ countLine count = line 11 (outside 1 64 count)
 -- 11 comes "after 8", and 9 "then speaks of count × stride × rows"
 abbrev pub ringLines : Settings → Frame → ℕ → ℕ → ℕ → ℕ → List Line
 ringLines s f count source luma chroma =
-    sizeLine f ∷ strideLine s f ∷ countLine count ∷ lengthLine s f count source luma chroma ∷ []
+    sizeLine f ∷ windowLine f ∷ strideLine s f ∷ countLine count ∷ lengthLine s f count source luma chroma ∷ []
 
 -- ---- the frames
 

@@ -107,7 +107,8 @@ impl Settings {
     }
 }
 
-// A frame's size in pixels, and the strides of its three buffers in u16 elements.
+// A window on the rows of a source: its size in pixels, the strides of the three buffers in u16 elements, the window's corner in
+// pixels and rows of the source, and how many rows the source has.
 #[repr(C)]
 pub struct Frame {
     pub width: usize,
@@ -115,6 +116,9 @@ pub struct Frame {
     pub source_stride: usize,
     pub luma_stride: usize,
     pub chroma_stride: usize,
+    pub first_column: usize,
+    pub first_row: usize,
+    pub source_rows: usize,
 }
 
 pub struct Pixel {
@@ -184,6 +188,7 @@ pub enum Refusal {
     Length,
     TooLarge(SourcePlace),
     Count,
+    Window,
 }
 
 impl Refusal {
@@ -203,6 +208,7 @@ impl Refusal {
             Refusal::Length => 9,
             Refusal::TooLarge(_) => 10,
             Refusal::Count => 11,
+            Refusal::Window => 12,
         }
     }
 }

@@ -12,6 +12,7 @@ fn whole_frames() {
     run::run(c);
     let mut d = c;
     d.height = 2;
+    d.source_rows = 2;
     d.source = 18;
     d.luma = 8;
     run::run(d);

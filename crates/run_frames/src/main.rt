@@ -14,6 +14,7 @@ fn whole_frames() {
     run::run(c);
     let mut d = c;
     d.height = 2;
+    d.source_rows = 2;
     d.source = 18;
     d.luma = 8;
     run::run(d);
@@ -47,6 +48,7 @@ fn sizes() {
     run::run(c);
     let mut d = case::base();
     d.height = 18446744073709551615;
+    d.source_rows = 18446744073709551615;
     run::run(d);
 }
 

@@ -2,6 +2,7 @@
 // every line out afresh.
 ghost use Prim.Native.Nat.{_<_, _≤_};
 use cases::case;
+use convert_calls::rings;
 
 mod call;
 mod orders;
@@ -11,7 +12,7 @@ mod sweeps;
 fn run_count(frames: usize, count: usize)
     requires { ⌜ frames ≤ 65 ⌝ }
 {
-    call::run(call::end_to_end(case::base(), frames), count);
+    call::run(rings::end_to_end(case::base(), frames), count);
 }
 
 // Both sides of the limits of a count, and the largest number.
@@ -63,8 +64,8 @@ fn run_sample(channels: u32, frame: usize, element: usize, sample: u16)
     c.channels = channels;
     c.seed = 8;
     let d = case::laid(c, 2, 1, 1);
-    let mut e = call::end_to_end(d, 64);
-    e.at = call::start_of(d.source, frame) + element;
+    let mut e = rings::end_to_end(d, 64);
+    e.at = rings::start_of(d.source, frame) + element;
     e.sample = sample;
     call::run(e, 64);
 }

@@ -2,6 +2,7 @@
 // are refused as 4.
 use crate::call;
 use cases::case;
+use convert_calls::rings;
 
 fn run_settings(depth: u32, precision: u32, matrix: u32, range: u32, width: usize) {
     let mut c = case::base();
@@ -10,7 +11,7 @@ fn run_settings(depth: u32, precision: u32, matrix: u32, range: u32, width: usiz
     c.matrix = matrix;
     c.range = range;
     c.width = width;
-    call::run(call::end_to_end(c, 2), 2);
+    call::run(rings::end_to_end(c, 2), 2);
 }
 
 // 1, 2, 3 and 5; 1 with 2, 2 with 3, 3 with 5, and 5 with 7.
@@ -27,7 +28,7 @@ fn settings() {
 
 // A chroma plane of another length than 12 is not that of two frames; the sample is one of the second frame.
 fn run_frames(width: usize, source_stride: usize, count: usize, chroma: usize, sample: u16) {
-    let mut c = call::end_to_end(case::base(), 2);
+    let mut c = rings::end_to_end(case::base(), 2);
     c.width = width;
     c.source_stride = source_stride;
     c.chroma = chroma;
@@ -55,7 +56,7 @@ fn run_unnamed(depth: u32, count: usize) {
     let mut c = case::base();
     c.depth = depth;
     c.range = 2;
-    call::run(call::end_to_end(c, 2), count);
+    call::run(rings::end_to_end(c, 2), count);
 }
 
 // 18; 18 with 1, and 18 with 11.

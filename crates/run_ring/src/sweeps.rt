@@ -4,6 +4,7 @@ use crate::call;
 use cases::case;
 use cases::planes::index;
 use cases::sweeps;
+use convert_calls::rings;
 
 // Three frames, of which number t % 5 has a sample that is too large, in a row, pixel and channel that change from ring to ring. Numbers 3
 // and 4 lie past the last frame, and no frame is refused then.
@@ -12,8 +13,8 @@ fn run_layout(t: usize)
 {
     let c = sweeps::layout(t);
     let element = case::first_element(c.channels, t / 15 % 3) + t / 45 % 3;
-    let mut d = call::end_to_end(c, 3);
-    d.at = call::start_of(c.source, t % 5) + index(c.source_stride, t / 5 % 3, element);
+    let mut d = rings::end_to_end(c, 3);
+    d.at = rings::start_of(c.source, t % 5) + index(c.source_stride, t / 5 % 3, element);
     d.sample = 1024;
     call::run(d, 3);
 }
@@ -30,7 +31,7 @@ fn run_depth(t: usize)
 {
     let mut c = sweeps::depth(t);
     c.matrix = (t % 6) as u32;
-    call::run(call::end_to_end(c, 2), 2);
+    call::run(rings::end_to_end(c, 2), 2);
 }
 
 fn run_depths() {
@@ -44,7 +45,7 @@ fn run_size(t: usize)
     requires { ⌜ t < 75 ⌝ }
 {
     let count = 1 + t / 7 % 4;
-    call::run(call::end_to_end(sweeps::size(t), count), count);
+    call::run(rings::end_to_end(sweeps::size(t), count), count);
 }
 
 fn run_sizes() {

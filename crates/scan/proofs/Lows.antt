@@ -12,9 +12,9 @@ use Rattle.rules.specs.declared.Frame.{Frame}
 use Rattle.rules.specs.declared.Pixel.{Pixel}
 use Rattle.rules.specs.declared.YuvSourceChannels.{YuvSourceChannels}
 use Rattle.rules.specs.declared.Search.the-variants.{Nothing}
-use Rattle.rules.specs.Channels.{Picture, count, picture}
+use Rattle.rules.specs.Channels.{Picture, count}
 use Rattle.rules.specs.Search.{Clean}
-use Rattle.rules.specs.Frames.{colourSample, lowTest, tooLarge}
+use Rattle.rules.specs.Frames.{window, colourSample, lowTest, tooLarge}
 use Rattle.rule_laws.specs.Codes.{Low}
 use Rattle.plane_laws.proofs.Searches.{clean-none}
 use Rattle.frames.specs.Rows.{rowPixel, Shows, LowRow, LowPicture}
@@ -48,14 +48,14 @@ module _ {c : YuvSourceChannels} {f : Frame} {source : List ℕ} {i j k l : ℕ}
         let e = mul-add-mod-self-right x (count c) d ∙ mod-eq-of-lt (omega (arith, places c .least)) in
         h .each (x * count c + d) (omega (arith, one .long)) (omega (arith, e))
 
-    low : {row : ℕ} {part : List ℕ} → SourceRow c f source row part → ((n : ℕ) → BoundsAt m o p q r n → getD part n 0 ≤ m) → LowRow m (picture c (f .«source_stride») source row) (f .width)
+    low : {row : ℕ} {part : List ℕ} → SourceRow c f source row part → ((n : ℕ) → BoundsAt m o p q r n → getD part n 0 ≤ m) → LowRow m (window c f source row) (f .width)
     low {row} {part} s e =
         row-shown (s .shows) (placed-low c m (f .width) part (omega (arith, s .long)) (λ x d w b inside. e _ (at x d b (omega (arith, inside, s .long)))))
 
     -- where each is the next row, or there is no such row
-    pub low-four : (i + 1 < f .height → j ≡ i + 1) → (i + 2 < f .height → k ≡ i + 2) → (i + 3 < f .height → l ≡ i + 3) → LowFour m (picture c (f .«source_stride») source) (f .width) (f .height) i
+    pub low-four : (i + 1 < f .height → j ≡ i + 1) → (i + 2 < f .height → k ≡ i + 2) → (i + 3 < f .height → l ≡ i + 3) → LowFour m (window c f source) (f .width) (f .height) i
     low-four second third fourth =
-        let Row : ℕ → Type 0 = λ n. LowRow m (picture c (f .«source_stride») source n) (f .width) in
+        let Row : ℕ → Type 0 = λ n. LowRow m (window c f source n) (f .width) in
         let Next : ℕ → Type 0 = λ n. i ≤ n → n < f .height → Row n in
         let a : (n : ℕ) → n < i + 1 → Next n = below-more Next i (λ n below from. absurd (omega (arith, below, from))) (λ from within. low one (λ n b. b .first)) in
         let b : (n : ℕ) → n < i + 1 + 1 → Next n = below-more Next (i + 1) a (λ from within. subst Row (second within) (low two (λ n b. b .second))) in
@@ -64,8 +64,8 @@ module _ {c : YuvSourceChannels} {f : Frame} {source : List ℕ} {i j k l : ℕ}
         record { low = λ n from below within. e n (omega (arith, below)) from within }
 
 -- every element of a source
-pub all-low : (c : YuvSourceChannels) (m stride width height : ℕ) (source : List ℕ) → ((i : ℕ) → getD source i 0 ≤ m) → LowPicture m (picture c stride source) width height
-all-low c m stride width height source h = record { low = λ row b. record { low = λ x l. record { red = h _; green = h _; blue = h _ } } }
+pub all-low : (c : YuvSourceChannels) (m : ℕ) (f : Frame) (source : List ℕ) → ((i : ℕ) → getD source i 0 ≤ m) → LowPicture m (window c f source) (f .width) (f .height)
+all-low c m f source h = record { low = λ row b. record { low = λ x l. record { red = h _; green = h _; blue = h _ } } }
 
 -- ---- nothing is found there
 

@@ -1,11 +1,11 @@
 // Refusal 10: the first visible colour sample that exceeds m, reading row by row.
 ghost use mathlib.Core.Path.{_≡_};
-ghost use Prim.Native.Nat.{_*_, _<_, _≤_};
+ghost use Prim.Native.Nat.{_<_, _≤_};
 ghost use lib.ListN.{length};
-ghost use Rattle.rules.specs.Channels.{count, picture};
 ghost use Rattle.rules.specs.Search.{isFound};
-ghost use Rattle.rules.specs.Frames.{tooLarge};
-ghost use Rattle.frames.specs.Rows.{Rows, LowPicture};
+ghost use Rattle.rules.specs.Frames.{window, tooLarge};
+ghost use Rattle.frames.specs.Rows.{LowPicture};
+ghost use Rattle.frames.specs.SourceRows.{WindowRows};
 ghost use Rattle.scan.specs.Fours.{LowFour};
 ghost use Rattle.frames.specs.Tests.{Sized};
 use frames::rows;
@@ -34,9 +34,9 @@ fn least(a: usize, b: usize) -> usize
 // A number that no colour sample of the four rows from `row` on exceeds; past the last row, that row is taken again.
 fn bound_from(channels: YuvSourceChannels, f: Frame, source: &[u16], row: usize) -> u64
     requires { ⌜ Sized f ⌝ }
-    requires { ⌜ Rows (length (now source)) (f .«source_stride») (f .width * count channels) (f .height) ⌝ }
+    requires { ⌜ WindowRows channels f (length (now source)) ⌝ }
     requires { ⌜ row < f .height ⌝ }
-    ensures { λ r. ⌜ LowFour r (picture channels (f .«source_stride») (now (source .entry))) (f .width) (f .height) row ⌝ }
+    ensures { λ r. ⌜ LowFour r (window channels f (now (source .entry))) (f .width) (f .height) row ⌝ }
 {
     let last = f.height - 1;
     let a = rows::source_row(channels, f, source, row);
@@ -49,9 +49,9 @@ fn bound_from(channels: YuvSourceChannels, f: Frame, source: &[u16], row: usize)
 // How many rows, from the first on, surely have no colour sample that exceeds m: all, or those above the first four rows in which one does.
 fn rows_low(m: u16, channels: YuvSourceChannels, f: Frame, source: &[u16]) -> usize
     requires { ⌜ Sized f ⌝ }
-    requires { ⌜ Rows (length (now source)) (f .«source_stride») (f .width * count channels) (f .height) ⌝ }
+    requires { ⌜ WindowRows channels f (length (now source)) ⌝ }
     ensures { λ r. ⌜ r ≤ f .height ⌝ }
-    ensures { λ r. ⌜ LowPicture m (picture channels (f .«source_stride») (now (source .entry))) (f .width) r ⌝ }
+    ensures { λ r. ⌜ LowPicture m (window channels f (now (source .entry))) (f .width) r ⌝ }
 {
     let height = f.height;
     let mut row = 0;
@@ -67,8 +67,8 @@ fn rows_low(m: u16, channels: YuvSourceChannels, f: Frame, source: &[u16]) -> us
 // Refusal 10.
 pub fn too_large(m: u16, channels: YuvSourceChannels, f: Frame, source: &[u16]) -> Search
     requires { ⌜ Sized f ⌝ }
-    requires { ⌜ Rows (length (now source)) (f .«source_stride») (f .width * count channels) (f .height) ⌝ }
-    ensures { λ r. ⌜ r ≡ tooLarge m f (picture channels (f .«source_stride») (now (source .entry))) ⌝ }
+    requires { ⌜ WindowRows channels f (length (now source)) ⌝ }
+    ensures { λ r. ⌜ r ≡ tooLarge m f (window channels f (now (source .entry))) ⌝ }
 {
     // no sample of 16 bits exceeds this m
     if m == 65535 {

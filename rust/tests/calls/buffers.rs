@@ -1,6 +1,6 @@
 //! Buffers drawn: lengths, the samples of a source, the old words of a plane.
 use super::random::Random;
-use crate::reference::{pixel_elements, Frame, Settings};
+use crate::reference::{chroma_rows, pixel_elements, Frame, Settings};
 
 const LONGEST: u128 = 140_000;
 const PIXELS: usize = 40_000;
@@ -19,22 +19,40 @@ pub fn lengths(
     })
 }
 
-/// Makes one length wrong: one short, one long, empty, a row more, or without the padding of the last row.
+/// The rows that a buffer of a window could be taken to have: in the source those of the window or those down to its last one, in a
+/// plane as many as the source has.
+fn mistaken_rows(random: &mut Random, settings: &Settings, frame: &Frame, which: usize) -> u128 {
+    let [height, first_row] = [frame.height, frame.first_row].map(|n| n as u128);
+    match which {
+        0 => random.pick(&[height, height + first_row]),
+        1 => frame.source_rows as u128,
+        _ => chroma_rows(settings, frame.source_rows),
+    }
+}
+
+/// Makes one length of so many frames wrong: one short, one long, empty, a row more, without what follows the last pixel of the
+/// last row, or for a wrong number of rows.
 pub fn spoil_length(
     random: &mut Random,
     settings: &Settings,
     frame: &Frame,
+    frames: usize,
     lengths: &mut [usize; 3],
 ) {
     let which = random.below(3);
     let stride = frame.strides()[which];
-    let padding = (stride as u128).saturating_sub(frame.visible(settings)[which]);
+    let padding = (stride as u128).saturating_sub(frame.covered(settings)[which]);
+    let rows = mistaken_rows(random, settings, frame, which);
+    let mistaken = (stride as u128)
+        .saturating_mul(rows)
+        .saturating_mul(frames as u128);
     let length = &mut lengths[which];
-    *length = match random.below(6) {
+    *length = match random.below(8) {
         0 => 0,
         1 => *length + stride.min(LONGEST as usize),
         2 => length.saturating_sub(padding as usize),
         3 | 4 => length.saturating_sub(1),
+        5 | 6 if mistaken <= LONGEST => mistaken as usize,
         _ => *length + 1,
     };
 }
@@ -56,9 +74,11 @@ pub fn colour_places(settings: &Settings, frame: &Frame, length: usize) -> Vec<u
     }
     for row in 0..frame.height {
         for column in 0..frame.width {
+            let row = frame.first_row.saturating_add(row);
+            let column = frame.first_column.saturating_add(column);
             let at = row
                 .saturating_mul(frame.source_stride)
-                .saturating_add(column * elements);
+                .saturating_add(column.saturating_mul(elements));
             places.extend((0..3).map(|c| at.saturating_add(c)).filter(|&i| i < length));
         }
     }
@@ -74,7 +94,7 @@ fn sample(random: &mut Random, manner: usize, most: u16) -> u16 {
     }
 }
 
-/// What stands in padding and alpha: any word, mostly too large for a sample.
+/// What stands outside the window and in alpha: any word, mostly too large for a sample.
 fn unread(random: &mut Random, most: u16) -> u16 {
     match random.below(3) {
         0 => most.saturating_add(1),

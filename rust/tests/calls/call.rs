@@ -13,9 +13,10 @@ pub struct Call {
     pub chroma: Vec<u16>,
 }
 
-const DAMAGES: [Damage; 5] = [
+const DAMAGES: [Damage; 6] = [
     Damage::Settings,
     Damage::Size,
+    Damage::Window,
     Damage::Stride,
     Damage::Length,
     Damage::Sample,
@@ -29,7 +30,7 @@ impl Call {
         let (settings, frame) = damage::layout(random, &damages);
         let mut lengths = buffers::lengths(random, &settings, &frame, 1);
         if has(Damage::Length) {
-            buffers::spoil_length(random, &settings, &frame, &mut lengths);
+            buffers::spoil_length(random, &settings, &frame, 1, &mut lengths);
         }
         let mut source = buffers::source(random, &settings, &frame, lengths[0]);
         if has(Damage::Sample) {

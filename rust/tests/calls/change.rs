@@ -52,7 +52,7 @@ impl Plane<'_> {
 }
 
 fn plane(call: &mut Call, number: usize) -> Plane<'_> {
-    let [_, luma, chroma] = call.frame.visible(&call.settings);
+    let [_, luma, chroma] = call.frame.covered(&call.settings);
     match number {
         0 => Plane {
             words: &mut call.luma,

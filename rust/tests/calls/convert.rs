@@ -3,6 +3,7 @@ use super::call::Call;
 use super::counts::{refused, Counts};
 use super::library::{check, convert, By};
 use super::random::Random;
+use super::window_counts;
 use crate::reference::Refusal;
 
 const CALLS: usize = 40_000;
@@ -22,6 +23,8 @@ fn compare(random: &mut Random, call: Call, counts: &mut Counts) {
     let (answer, got) = convert_as_expected(by, &call);
     counts.add(format!("by {by:?}"));
     counts.add_many("elements compared", call.elements());
+    let number = answer.err().map_or(0, |refusal| refusal.number);
+    window_counts::count(&call, 1, number, counts);
     match answer {
         Err(refusal) => counts.add(refused(refusal.number)),
         Ok(()) if call.settings.is_custom() => counts.add("done, custom pair"),
@@ -42,7 +45,8 @@ fn random_frames() {
         compare(random, call, &mut counts);
     }
     counts.print(&format!("convert, {CALLS} calls"));
-    counts.assert_refusals(&[1, 2, 3, 5, 7, 8, 9, 10, 18]);
+    counts.assert_refusals(&[1, 2, 3, 5, 7, 8, 9, 10, 12, 18]);
+    window_counts::assert_met(&counts);
     counts.assert_reached(&[
         "done, custom pair",
         "done and accepted by check",

@@ -1,12 +1,13 @@
 //! What is wrong with a drawn call.
 use super::random::Random;
-use super::{frames, settings};
+use super::{frames, settings, windows};
 use crate::reference::{Frame, Settings};
 
 #[derive(Clone, Copy, PartialEq)]
 pub enum Damage {
     Settings,
     Size,
+    Window,
     Stride,
     /// Of a ring alone.
     Count,
@@ -35,7 +36,11 @@ pub fn layout(random: &mut Random, damages: &[Damage]) -> (Settings, Frame) {
     if damages.contains(&Damage::Size) {
         frames::spoil_size(random, &mut sizes);
     }
+    let mut window = windows::draw(random, &settings, sizes);
+    if damages.contains(&Damage::Window) {
+        windows::spoil(random, sizes[1], &mut window);
+    }
     let spoils_stride = damages.contains(&Damage::Stride);
-    let frame = frames::laid_out(random, &settings, sizes, spoils_stride);
+    let frame = frames::laid_out(random, &settings, sizes, window, spoils_stride);
     (settings, frame)
 }

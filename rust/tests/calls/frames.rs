@@ -1,6 +1,7 @@
 //! Frames drawn: sizes and strides, sound and spoiled.
 use super::random::Random;
-use crate::reference::{Frame, Settings};
+use super::windows::Window;
+use crate::reference::{pixel_elements, Frame, Settings};
 
 /// Sizes that are refused; 2^32 + 3 would be 3 if it were cut to 32 bits.
 const SIZES: [usize; 7] = [0, 0, 16_385, 65_536, 65_537, (1 << 32) + 3, usize::MAX];
@@ -42,21 +43,23 @@ fn padding(random: &mut Random) -> usize {
     }
 }
 
-/// A stride for a visible row of any length, even one that no stride can hold.
-fn stride(random: &mut Random, visible: u128, rows: usize) -> usize {
-    let visible = usize::try_from(visible).unwrap_or(usize::MAX);
-    if rows <= 2 && visible <= 65_536 && random.one_in(50) {
+/// A stride for a row of any length, even one that no stride can hold.
+fn stride(random: &mut Random, row: u128, rows: usize) -> usize {
+    let row = usize::try_from(row).unwrap_or(usize::MAX);
+    if rows <= 2 && row <= 65_536 && random.one_in(50) {
         return 65_536;
     }
-    visible.saturating_add(padding(random))
+    row.saturating_add(padding(random)).min(row.max(65_536))
 }
 
-fn spoiled_stride(random: &mut Random, visible: u128) -> usize {
-    let visible = usize::try_from(visible).unwrap_or(usize::MAX);
-    match random.below(8) {
+/// `of_width` is what the width alone needs.
+fn spoiled_stride(random: &mut Random, covered: u128, of_width: u128) -> usize {
+    let [covered, of_width] = [covered, of_width].map(|n| usize::try_from(n).unwrap_or(usize::MAX));
+    match random.below(9) {
         0..=3 => random.pick(&STRIDES),
-        4 => visible.wrapping_add(1 << 32),
-        _ => visible.wrapping_sub(1),
+        4 => covered.wrapping_add(1 << 32),
+        5 if of_width < covered => of_width,
+        _ => covered.wrapping_sub(1),
     }
 }
 
@@ -65,6 +68,7 @@ pub fn laid_out(
     random: &mut Random,
     settings: &Settings,
     [width, height]: [usize; 2],
+    window: Window,
     spoils: bool,
 ) -> Frame {
     let mut frame = Frame {
@@ -73,12 +77,22 @@ pub fn laid_out(
         source_stride: 0,
         luma_stride: 0,
         chroma_stride: 0,
+        first_column: window.first_column,
+        first_row: window.first_row,
+        source_rows: window.source_rows,
     };
-    let visible = frame.visible(settings);
-    let mut strides = visible.map(|v| stride(random, v, height));
+    let covered = frame.covered(settings);
+    let [source, luma, chroma] = covered;
+    let after = window.columns_after as u128 * pixel_elements(settings);
+    let mut strides = [
+        stride(random, source + after, frame.source_rows),
+        stride(random, luma, height),
+        stride(random, chroma, height),
+    ];
     if spoils {
+        let of_width = [width as u128 * pixel_elements(settings), luma, chroma];
         let which = random.below(3);
-        strides[which] = spoiled_stride(random, visible[which]);
+        strides[which] = spoiled_stride(random, covered[which], of_width[which]);
     }
     [frame.source_stride, frame.luma_stride, frame.chroma_stride] = strides;
     frame

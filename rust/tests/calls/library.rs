@@ -5,8 +5,8 @@ use super::ring_call::RingCall;
 use crate::raw::{self, PlaceNumbers, RingNumbers, SampleNumbers};
 use crate::reference::{Frame, Refusal, RingEnded, Sample, Settings, SourcePlace};
 use ayresokum::{
-    Channel, Checked, Plane, Weights, YuvBytesPacking, YuvChromaSubsampling, YuvEndianness,
-    YuvNVOrder, YuvRange, YuvSourceChannels, YuvStandardMatrix,
+    Channel, Checked, Plane, Strides, Weights, Window, YuvBytesPacking, YuvChromaSubsampling,
+    YuvEndianness, YuvNVOrder, YuvRange, YuvSourceChannels, YuvStandardMatrix,
 };
 
 #[derive(Debug, Clone, Copy, PartialEq)]
@@ -48,13 +48,18 @@ fn meant(settings: &Settings) -> ayresokum::Settings {
 }
 
 fn meant_frame(frame: &Frame) -> ayresokum::Frame {
-    ayresokum::Frame {
+    let window = Window {
+        first_column: frame.first_column,
+        first_row: frame.first_row,
         width: frame.width,
         height: frame.height,
-        source_stride: frame.source_stride,
-        luma_stride: frame.luma_stride,
-        chroma_stride: frame.chroma_stride,
-    }
+    };
+    let strides = Strides {
+        source: frame.source_stride,
+        luma: frame.luma_stride,
+        chroma: frame.chroma_stride,
+    };
+    ayresokum::Frame::window(window, frame.source_rows, strides)
 }
 
 fn source_place(place: ayresokum::SourcePlace) -> SourcePlace {

@@ -16,3 +16,5 @@ mod ring_call;
 mod settings;
 mod settle;
 mod too_large;
+mod window_counts;
+mod windows;

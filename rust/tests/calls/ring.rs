@@ -4,6 +4,7 @@ use super::counts::{refused, Counts};
 use super::library::{convert_ring, By};
 use super::random::Random;
 use super::ring_call::{RingCall, REFUSED_COUNTS};
+use super::window_counts;
 use crate::reference::RingEnded;
 
 const CALLS: usize = 40_000;
@@ -79,6 +80,8 @@ fn compare(random: &mut Random, ring: &RingCall, counts: &mut Counts) {
     }
     counts.add(format!("by {by:?}"));
     counts.add_many("elements compared", ring.call.elements());
+    let number = answer.err().map_or(0, |ended| ended.refusal.number);
+    window_counts::count(&ring.call, ring.count, number, counts);
     match answer {
         Err(ended) => count_ended(ring, &ended, counts),
         Ok(()) => {
@@ -102,7 +105,8 @@ fn random_rings() {
         compare(random, &ring, &mut counts);
     }
     counts.print(&format!("rings, {CALLS} calls"));
-    counts.assert_refusals(&[1, 2, 3, 5, 7, 8, 9, 10, 11, 18]);
+    counts.assert_refusals(&[1, 2, 3, 5, 7, 8, 9, 10, 11, 12, 18]);
+    window_counts::assert_met(&counts);
     counts.assert_at_least(500, &["done, 1 frame", "done, 64 frames"]);
     counts.assert_at_least(300, &REFUSED_FRAMES);
     counts.assert_at_least(100, &WRONG_LENGTHS);

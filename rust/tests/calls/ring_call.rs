@@ -13,9 +13,10 @@ pub struct RingCall {
 }
 
 /// A sample above m is drawn more often, since it alone ends a ring within.
-const DAMAGES: [Damage; 8] = [
+const DAMAGES: [Damage; 9] = [
     Damage::Settings,
     Damage::Size,
+    Damage::Window,
     Damage::Stride,
     Damage::Count,
     Damage::Length,
@@ -73,7 +74,7 @@ fn spoil_lengths(
             let which = random.below(3);
             lengths[which] = other[which];
         }
-        _ => buffers::spoil_length(random, settings, frame, lengths),
+        _ => buffers::spoil_length(random, settings, frame, frames, lengths),
     }
 }
 

@@ -28,21 +28,23 @@ pub fn chroma_rows(settings: &Settings, height: usize) -> u128 {
 }
 
 impl Frame {
-    /// Visible elements in a row of source, luma and chroma.
-    pub fn visible(&self, settings: &Settings) -> [u128; 3] {
+    /// Elements in a row of source, luma and chroma that its stride must cover: "(first column + width) pixels", and the
+    /// visible rows of the planes.
+    pub fn covered(&self, settings: &Settings) -> [u128; 3] {
         let width = self.width as u128;
+        let pixels = self.first_column as u128 + width;
         let chroma = chroma_elements(settings, self.width);
-        [width * pixel_elements(settings), width, chroma]
+        [pixels * pixel_elements(settings), width, chroma]
     }
 
     pub fn strides(&self) -> [usize; 3] {
         [self.source_stride, self.luma_stride, self.chroma_stride]
     }
 
-    /// "exactly stride × rows", of source, luma and chroma.
+    /// "exactly stride × rows", of source, luma and chroma; "source length is stride × source rows".
     pub fn lengths(&self, settings: &Settings) -> [u128; 3] {
-        let height = self.height as u128;
-        let rows = [height, height, chroma_rows(settings, self.height)];
+        let chroma_rows = chroma_rows(settings, self.height);
+        let rows = [self.source_rows as u128, self.height as u128, chroma_rows];
         let strides = self.strides();
         [0, 1, 2].map(|i| strides[i] as u128 * rows[i])
     }

@@ -1,4 +1,4 @@
-//! Document 01 with requests One and Two of document 02, written afresh for the tests alone. It shares nothing with the crate
+//! Document 01 with requests One to Four of document 02, written afresh for the tests alone. It shares nothing with the crate
 //! but the records of src/raw.rs, and knows every enumeration by its numbers.
 //!
 //! Weights are worked out in f32 step by step, everything else in whole numbers of 128 bits.
@@ -21,7 +21,7 @@ pub use crate::raw::{Frame, SettingsNumbers as Settings};
 pub use check::{check, exact_of, Sample};
 pub use convert::convert;
 pub use fractions::{reach, within};
-pub use frame::pixel_elements;
+pub use frame::{chroma_rows, pixel_elements};
 pub use refusals::{Refusal, SourcePlace};
 pub use ring::{convert_ring, RingEnded};
 pub use settle::settle;

@@ -11,6 +11,7 @@ pub fn colours(settings: &Settings) -> [usize; 3] {
     }
 }
 
+/// A pixel of the window, counted from its corner.
 pub fn pixel(
     settings: &Settings,
     frame: &Frame,
@@ -18,6 +19,7 @@ pub fn pixel(
     row: usize,
     column: usize,
 ) -> Pixel {
+    let (row, column) = (frame.first_row + row, frame.first_column + column);
     let at = row * frame.source_stride + column * pixel_elements(settings) as usize;
     colours(settings).map(|place| i128::from(source[at + place]))
 }

@@ -1,4 +1,4 @@
-//! What a refusal is, and refusals 7 to 10, which convert and check share, and of which a ring asks 7 and 8 once.
+//! What a refusal is, and refusals 7, 12 and 8 to 10, which convert and check share, and of which a ring asks the first three once.
 use super::places::pixel;
 use super::{Frame, Settings};
 
@@ -30,8 +30,15 @@ fn size_off(size: usize) -> bool {
     size == 0 || size > 16_384
 }
 
-fn stride_off(stride: usize, visible: u128) -> bool {
-    (stride as u128) < visible || stride > 65_536
+/// "a window number over 16,384 or first row + height over the source rows".
+fn window_off(frame: &Frame) -> bool {
+    let numbers = [frame.first_column, frame.first_row, frame.source_rows];
+    let end = frame.first_row as u128 + frame.height as u128;
+    numbers.iter().any(|&number| number > 16_384) || end > frame.source_rows as u128
+}
+
+fn stride_off(stride: usize, covered: u128) -> bool {
+    (stride as u128) < covered || stride > 65_536
 }
 
 /// "row, pixel and channel (red before green before blue) of the first too-large visible sample, reading row by row".
@@ -53,20 +60,23 @@ fn first_too_large(settings: &Settings, frame: &Frame, source: &[u16]) -> Option
     None
 }
 
-/// The first of refusals 7 and 8 that applies, for settings that settle accepts.
+/// The first of refusals 7, 12 and 8 that applies, for settings that settle accepts: 12 comes "directly after 7".
 pub fn layout_refusal(settings: &Settings, frame: &Frame) -> Result<(), Refusal> {
     if size_off(frame.width) || size_off(frame.height) {
         return Err(7.into());
     }
+    if window_off(frame) {
+        return Err(12.into());
+    }
     let strides = frame.strides();
-    let visible = frame.visible(settings);
-    if (0..3).any(|i| stride_off(strides[i], visible[i])) {
+    let covered = frame.covered(settings);
+    if (0..3).any(|i| stride_off(strides[i], covered[i])) {
         return Err(8.into());
     }
     Ok(())
 }
 
-/// The first of refusals 7 to 10 that applies, for settings that settle accepts. The buffers are source, luma and chroma.
+/// The first of refusals 7, 12 and 8 to 10 that applies, for settings that settle accepts. The buffers are source, luma and chroma.
 pub fn frame_refusal(
     settings: &Settings,
     frame: &Frame,

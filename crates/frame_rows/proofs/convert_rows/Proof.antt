@@ -3,7 +3,7 @@ use mathlib.Core.Path.{_≡_, ap, _∙_, subst⁻¹}
 use Prim.Native.Nat.{ℕ, _-_, _≤_, _<_}
 use native.Mathlib.Omega.{arith}
 use lib.ListN.{length}
-use Rattle.rules.specs.Channels.{picture}
+use Rattle.rules.specs.Frames.{shown}
 use Rattle.rules.specs.Blocks.{chromaWidth, chromaHeight}
 use Rattle.rules.specs.Planes.{written}
 use Rattle.rules.specs.Convert.{lumaWord, chromaWord}
@@ -17,7 +17,7 @@ use Rattle.frame_rows.proofs.convert_rows.Tie as tie
 
 abbrev Inv-loop : tie.InvT-loop
 Inv-loop s w f source luma₀ chroma₀ rows row₀ luma chroma row =
-    let px = picture (s .channels) (f .«source_stride») source in
+    let px = shown s f source in
     (row ≤ rows)
     × ((luma ≡ written (f .«luma_stride») (f .width) (rowsOver (s .subsampling) (f .height) row) (lumaWord s w px) luma₀)
     × (chroma ≡ written (f .«chroma_stride») (chromaWidth (s .subsampling) (f .width)) row (chromaWord s w (f .width) (f .height) px) chroma₀))
@@ -42,7 +42,7 @@ chroma-height-requires c κs = c .before .before .before .pre .1 .sized .flat
 loop-holds : tie.Need-loop-holds Inv-loop μ-loop
 loop-holds c =
     let v = c .before .before .before .before .args in
-    let px = picture (v .s .channels) (v .f .«source_stride») (v .source .now) in (
+    let px = shown (v .s) (v .f) (v .source .now) in (
       omega arith,
       (
         plane-none (v .f .«luma_stride») (v .f .width) (lumaWord (v .s) (v .w) px) (v .luma .now)
@@ -85,7 +85,7 @@ same-length-2 c = chroma-long (c .before)
 returns : tie.Need-returns Inv-loop μ-loop
 returns c =
     let v = c .before .before .before .before .before .before .args in
-    let px = picture (v .s .channels) (v .f .«source_stride») (v .source .now) in
+    let px = shown (v .s) (v .f) (v .source .now) in
     let e : c .before .loop .row ≡ chromaHeight (v .s .subsampling) (v .f .height) = omega (arith, c .before .loop .inv .0, c .before .before .chroma-height .ensures) in (
       c .before .loop .inv .1 .0
           ∙ ap (λ (n : ℕ). written (v .f .«luma_stride») (v .f .width) n (lumaWord (v .s) (v .w) px) (v .luma .now))

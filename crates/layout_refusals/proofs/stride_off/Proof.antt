@@ -1,7 +1,7 @@
 -- `layout_refusals::stride_off` meets its contract. Assumes nothing.
 use borrow.Author.Needs.{needs}
 use mathlib.Core.Path.{_≡_, sym, ap, _∙_}
-use Prim.Native.Nat.{ℕ, _*_}
+use Prim.Native.Nat.{ℕ, _+_, _*_}
 use native.Mathlib.Omega.{arith}
 use Rattle.rules.specs.Channels.{count}
 use Rattle.rules.specs.Refusals.{outside}
@@ -11,18 +11,22 @@ use Rattle.layout_refusals.proofs.stride_off.Statement.{statement}
 use Rattle.layout_refusals.proofs.stride_off.Tie as tie
 
 -- what the first test says of the source's stride
-source-told : (c : tie.After-outside) → let a = c .before .before .before .args in c .outside .result ≡ outside (a .f .width * count (a .s .channels)) 65536 (a .f .«source_stride»)
+source-told : (c : tie.After-outside) → let a = c .before .before .before .args in c .outside .result ≡ outside ((a .f .«first_column» + a .f .width) * count (a .s .channels)) 65536 (a .f .«source_stride»)
 source-told c =
     let f = c .before .before .before .args .f in
-    c .outside .ensures ∙ ap (λ (n : ℕ). outside (f .width * n) 65536 (f .«source_stride»)) (c .before .before .get-channels-count .ensures)
+    c .outside .ensures ∙ ap (λ (n : ℕ). outside ((f .«first_column» + f .width) * n) 65536 (f .«source_stride»)) (c .before .get-channels-count .ensures)
+
+add-covered : tie.Need-add-covered
+add-covered c = let s = c .before in omega (arith, s .pre .0 .narrow, s .pre .1 .left)
 
 get-channels-count-requires : tie.Need-get-channels-count-requires
 get-channels-count-requires c κs = search needs
 
-mul-visible : tie.Need-mul-visible
-mul-visible c =
-    let f = c .before .before .args .f in
-    omega (arith, row-small f (c .before .before .args .s .channels) (c .before .before .pre), ap (λ (x : ℕ). f .width * x) (c .before .get-channels-count .ensures))
+mul-covered : tie.Need-mul-covered
+mul-covered c =
+    let s = c .before .before in
+    let f = s .args .f in
+    omega (arith, row-small f (s .args .s .channels) (s .pre .0) (s .pre .1), ap (λ (x : ℕ). (f .«first_column» + f .width) * x) (c .get-channels-count .ensures))
 
 outside-requires : tie.Need-outside-requires
 outside-requires c κs = search needs
@@ -52,8 +56,9 @@ pub stride-off-spec : {M : Type 1} → statement M
 stride-off-spec =
     tie.close
     (tie.spec
+    add-covered
     get-channels-count-requires
-    mul-visible
+    mul-covered
     outside-requires
     returns
     outside-requires-2

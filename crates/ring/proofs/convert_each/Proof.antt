@@ -26,6 +26,7 @@ lies c =
     let b = c .loop-test .taken in
     record {
       sized = l .sized;
+      windowed = l .windowed;
       strided = l .strided;
       few = omega (arith, b, l .few);
       source = inside (sourceSize (v .f)) i (v .count) _ b (l .source);

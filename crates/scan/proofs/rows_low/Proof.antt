@@ -4,7 +4,7 @@ use borrow.Author.Count.{below-none}
 use Prim.Native.Nat.{ℕ, _+_, _-_, _≤_, _<_}
 use mathlib.Core.Logic.{⊎-elim}
 use native.Mathlib.Omega.{arith}
-use Rattle.rules.specs.Channels.{picture}
+use Rattle.rules.specs.Frames.{window}
 use Rattle.plane_laws.proofs.Tests.{lt-or-le}
 use Rattle.frames.specs.Rows.{LowRow}
 use Rattle.row_search.proofs.Lows.{row-less}
@@ -12,7 +12,7 @@ use Rattle.scan.proofs.rows_low.Statement.{statement}
 use Rattle.scan.proofs.rows_low.Tie as tie
 
 abbrev Inv-loop : tie.InvT-loop
-Inv-loop m channels f source height row₀ row = (row ≤ height + 3) × ((k : ℕ) → k < row → k < height → LowRow m (picture channels (f .«source_stride») source k) (f .width))
+Inv-loop m channels f source height row₀ row = (row ≤ height + 3) × ((k : ℕ) → k < row → k < height → LowRow m (window channels f source k) (f .width))
 
 abbrev μ-loop : tie.MeasureT-loop
 μ-loop m channels f source height row₀ row = height - row

@@ -9,9 +9,9 @@ use Rattle.rules.specs.declared.Frame.{Frame}
 use Rattle.rules.specs.declared.Pixel.{Pixel}
 use Rattle.rules.specs.declared.Search.{Search}
 use Rattle.rules.specs.declared.Search.the-variants.{Nothing}
-use Rattle.rules.specs.Channels.{Picture, picture}
+use Rattle.rules.specs.Channels.{Picture}
 use Rattle.rules.specs.Search.{firstBelow, failing, firstFailing, isFound}
-use Rattle.rules.specs.Frames.{channelOf, lowTest, tooLarge}
+use Rattle.rules.specs.Frames.{window, channelOf, lowTest, tooLarge}
 use Rattle.plane_laws.proofs.Searches.{none-more, found-first, first-ext, clean-none}
 use Rattle.frames.specs.Rows.{LowPicture}
 use Rattle.scan.proofs.Lows.{all-low, rows-clean, picture-nothing}
@@ -24,7 +24,7 @@ searchRow m f px row = firstBelow (3 * f .width) (λ i. failing (lowTest m px ro
 
 abbrev Inv-loop : tie.InvT-loop
 Inv-loop m channels f source width height row₀ row =
-    (row ≤ height) × (firstBelow row (searchRow m f (picture channels (f .«source_stride») source)) ≡ Nothing)
+    (row ≤ height) × (firstBelow row (searchRow m f (window channels f source)) ≡ Nothing)
 
 abbrev μ-loop : tie.MeasureT-loop
 μ-loop m channels f source width height row₀ row = height - row
@@ -33,7 +33,7 @@ abbrev μ-loop : tie.MeasureT-loop
 abbrev search-row : tie.Start Inv-loop μ-loop → ℕ → Search
 search-row a row =
     let v = a .args in
-    searchRow (v .m) (v .f) (picture (v .channels) (v .f .«source_stride») (v .source .now)) row
+    searchRow (v .m) (v .f) (window (v .channels) (v .f) (v .source .now)) row
 
 -- nothing is found in rows that are low
 none-in : (m n : ℕ) (f : Frame) (px : Picture) → LowPicture m px (f .width) n → firstBelow n (searchRow m f px) ≡ Nothing
@@ -54,7 +54,7 @@ asked c t h = sym (c .is-found .ensures ∙ ap isFound (told (c .before))) ∙ h
 returns : tie.Need-returns Inv-loop μ-loop
 returns c =
     let v = c .before .before .args in
-    sym (picture-nothing (v .m) (v .f) _ (all-low (v .channels) (v .m) (v .f .«source_stride») _ _ (v .source .now) (λ i. omega (arith, c .before .shared-slice-known .given i))))
+    sym (picture-nothing (v .m) (v .f) _ (all-low (v .channels) (v .m) (v .f) (v .source .now) (λ i. omega (arith, c .before .shared-slice-known .given i))))
 
 rows-low-requires : tie.Need-rows-low-requires Inv-loop μ-loop
 rows-low-requires c κs = c .before .before .pre

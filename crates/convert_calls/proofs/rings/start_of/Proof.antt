@@ -1,9 +1,9 @@
--- `run_ring::call::start_of` meets its contract. Assumes nothing.
+-- `convert_calls::rings::start_of` meets its contract. Assumes nothing.
 use borrow.Author.Needs.{needs}
 use native.Mathlib.Nat.{lt-of-le-of-lt, mul-le-mul}
 use lib.Dec.{lit<}
-use Rattle.run_ring.proofs.call.start_of.Statement.{statement}
-use Rattle.run_ring.proofs.call.start_of.Tie as tie
+use Rattle.convert_calls.proofs.rings.start_of.Statement.{statement}
+use Rattle.convert_calls.proofs.rings.start_of.Tie as tie
 
 within-room-requires : tie.Need-within-room-requires
 within-room-requires c κs = search needs
