@@ -1,0 +1,34 @@
+-- `run_windows::elements::frames_with` meets its contract. Assumes nothing.
+use borrow.Author.Needs.{needs}
+use Prim.Native.Nat.{_-_}
+use Rattle.run_windows.proofs.elements.frames_with.Statement.{statement}
+use Rattle.run_windows.proofs.elements.frames_with.Tie as tie
+
+abbrev Inv-loop : tie.InvT-loop
+Inv-loop c source₀ luma₀ chroma₀ length at₀ source luma chroma at = Unit
+
+abbrev μ-loop : tie.MeasureT-loop
+μ-loop c source₀ luma₀ chroma₀ length at₀ source luma chroma at = length - at
+
+loop-holds : tie.Need-loop-holds Inv-loop μ-loop
+loop-holds c = search needs
+
+frame-with-requires : tie.Need-frame-with-requires Inv-loop μ-loop
+frame-with-requires c κs = search needs
+
+add-at : tie.Need-add-at Inv-loop μ-loop
+add-at c = search needs
+
+loop-less : tie.Need-loop-less Inv-loop μ-loop
+loop-less c = search needs
+
+loop-again : tie.Need-loop-again Inv-loop μ-loop
+loop-again c = search needs
+
+returns : tie.Need-returns Inv-loop μ-loop
+returns c = search needs
+
+pub frames-with-spec : {M : Type 1} → statement M
+frames-with-spec =
+    tie.close
+    (tie.spec Inv-loop μ-loop loop-holds frame-with-requires add-at loop-less loop-again returns)
