@@ -3,7 +3,7 @@ called: its records would be misread."""
 import ctypes
 import os
 
-VERSION = 1
+VERSION = 2
 PATH = os.path.join(os.path.dirname(os.path.dirname(os.path.abspath(__file__))), 'build', 'libayresokum.so')
 WEIGHTS = ('yr', 'yg', 'yb', 'cb_r', 'cb_g', 'cb_b', 'cr_r', 'cr_g', 'cr_b')
 
@@ -14,8 +14,31 @@ class Settings(ctypes.Structure):
                 ('packing', ctypes.c_uint32), ('byte_order', ctypes.c_uint32), ('channels', ctypes.c_uint32)]
 
 
+def assert_size(number):
+    """ctypes would cut a number to the bits of a size_t and pass on what is left."""
+    if not 0 <= number < 2 ** (8 * ctypes.sizeof(ctypes.c_size_t)):
+        raise OverflowError(f'{number} is no size_t')
+
+
 class Frame(ctypes.Structure):
-    _fields_ = [(name, ctypes.c_size_t) for name in ('width', 'height', 'source_stride', 'luma_stride', 'chroma_stride')]
+    _fields_ = [(name, ctypes.c_size_t) for name in ('width', 'height', 'source_stride', 'luma_stride', 'chroma_stride',
+                                                     'first_column', 'first_row', 'source_rows')]
+
+    def __init__(self, width, height, source_stride, luma_stride, chroma_stride, first_column, first_row, source_rows):
+        """All of them, since ctypes would take one that is left out as 0."""
+        super().__init__()
+        numbers = width, height, source_stride, luma_stride, chroma_stride, first_column, first_row, source_rows
+        for (name, _), number in zip(self._fields_, numbers):
+            setattr(self, name, number)
+
+    def __setattr__(self, name, number):
+        assert_size(number)
+        super().__setattr__(name, number)
+
+    @classmethod
+    def whole(cls, width, height, source_stride, luma_stride, chroma_stride):
+        """A frame that is the whole source."""
+        return cls(width, height, source_stride, luma_stride, chroma_stride, 0, 0, height)
 
 
 class Settled(ctypes.Structure):
@@ -73,12 +96,6 @@ def assert_complete(path, calls):
     missing = [name for name in EXPORTED if not hasattr(calls, name)]
     if missing:
         raise FunctionMissing(f'{path} has no {", ".join(missing)}: build it from the commit of library.py')
-
-
-def assert_size(number):
-    """ctypes would cut a number to the bits of a size_t and pass on what is left."""
-    if not 0 <= number < 2 ** (8 * ctypes.sizeof(ctypes.c_size_t)):
-        raise OverflowError(f'{number} is no size_t')
 
 
 class Library:

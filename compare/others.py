@@ -37,7 +37,7 @@ def ffmpeg(chain, depth, pixels):
 
 def judge(library, settings, pixel, y, u, v):
     """How far Y, U and V lie from what our converter writes, and which are wrong: each is judged with the other two as ours."""
-    frame = Frame(1, 1, 3, 1, 2)
+    frame = Frame.whole(1, 1, 3, 1, 2)
     source = samples(pixel)
     luma, chroma = samples([0]), samples([0, 0])
     assert library.convert(settings, frame, source, luma, chroma).refusal == 0

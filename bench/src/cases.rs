@@ -83,6 +83,13 @@ pub fn rings() -> [Case; 2] {
     of_sizes(plain(), RING_SIZES)
 }
 
+/// The sensors on which a window is measured: 10 bits, Rgb.
+pub fn windows() -> Vec<Case> {
+    let of_subsampling =
+        |subsampling| of_sizes(settings(DEPTHS[0], CHANNELS[0], subsampling), SIZES);
+    SUBSAMPLINGS.into_iter().flat_map(of_subsampling).collect()
+}
+
 pub fn scales() -> Vec<Case> {
     SCALES
         .map(|(width, height, padding)| Case {

@@ -12,6 +12,7 @@ mod stage;
 mod table;
 mod theirs;
 mod timed;
+mod window;
 
 // Shared with compare/beside; `raw`, the C interface, with the Rust crate.
 #[path = "../../compare/beside/src/frame.rs"]
@@ -35,11 +36,12 @@ mod settings;
 use std::process::ExitCode;
 
 /// What is measured and printed, by name.
-const PARTS: [(&str, fn()); 5] = [
+const PARTS: [(&str, fn()); 6] = [
     ("table", table::print),
     ("scales", scales::print),
     ("refused", refused::print),
     ("ring", ring::print),
+    ("window", window::print),
     ("settle", settle::print_time),
 ];
 

@@ -4,19 +4,33 @@ use crate::settings::Settings;
 use std::fmt;
 
 impl Frame {
-    /// A frame with so many elements of padding in each row of the source, the luma plane and the chroma plane.
+    /// A whole frame with so many elements of padding in each row of the source, the luma plane and the chroma plane.
     pub fn padded(settings: &Settings, width: usize, height: usize, padding: [usize; 3]) -> Frame {
+        let strides = [
+            width * settings.channel_count() + padding[0],
+            width + padding[1],
+            settings.chroma_width(width) + padding[2],
+        ];
+        Frame::whole(width, height, strides)
+    }
+
+    /// A frame that is the whole source, which is the only kind that the crate has. The strides are those of source, luma and chroma.
+    pub fn whole(width: usize, height: usize, strides: [usize; 3]) -> Frame {
+        let [source_stride, luma_stride, chroma_stride] = strides;
         Frame {
             width,
             height,
-            source_stride: width * settings.channel_count() + padding[0],
-            luma_stride: width + padding[1],
-            chroma_stride: settings.chroma_width(width) + padding[2],
+            source_stride,
+            luma_stride,
+            chroma_stride,
+            first_column: 0,
+            first_row: 0,
+            source_rows: height,
         }
     }
 
     pub fn source_length(&self) -> usize {
-        self.source_stride * self.height
+        self.source_stride * self.source_rows
     }
 
     pub fn luma_length(&self) -> usize {

@@ -48,13 +48,11 @@ fn read(line: &str) -> Option<Case> {
             byte_order: short(7)?,
             channels: short(8)?,
         },
-        frame: Frame {
-            width: n[9] as usize,
-            height: n[10] as usize,
-            source_stride: n[11] as usize,
-            luma_stride: n[12] as usize,
-            chroma_stride: n[13] as usize,
-        },
+        frame: Frame::whole(
+            n[9] as usize,
+            n[10] as usize,
+            [11, 12, 13].map(|i| n[i] as usize),
+        ),
         lengths: [14, 15, 16].map(|i| ROOM.min(n[i] as usize)),
         seed: n[17],
         at: n[18] as usize,
@@ -101,6 +99,7 @@ fn answered(case: &Case) -> Result<Planes, String> {
         source_stride,
         luma_stride,
         chroma_stride,
+        ..
     } = case.frame;
     let sizes = [width, height, source_stride, luma_stride, chroma_stride];
     if sizes.iter().any(|size| u32::try_from(*size).is_err()) {

@@ -1,4 +1,4 @@
--- THE THEOREM of check that neither alpha nor the source's padding has a say. Assumes nothing.
+-- THE THEOREM of check that of the source the colour samples of the window alone have a say. Assumes nothing.
 use mathlib.Core.Path.{_≡_, refl, sym, ap, _∙_}
 use mathlib.Core.Bool.{cond}
 use mathlib.Core.List.{List, [], _∷_, _++_}
@@ -45,10 +45,10 @@ module _ (s : Settings) (f : Frame) (px px′ : Picture) (h : SamePicture (f .wi
   same-judged (Tabled k) = λ i. firstPlace (same-luma k i) (same-chroma k i)
   same-judged (Own p) = refl
 
--- THE THEOREM: sources that differ only in alpha and in padding get the same answer
-pub alpha-and-padding : (s : Settings) (f : Frame) (a b luma chroma : List ℕ) → SameAnswer s f a b luma chroma
+-- THE THEOREM: sources that differ only in alpha, in padding and outside the window get the same answer
+pub visible-colours-alone : (s : Settings) (f : Frame) (a b luma chroma : List ℕ) → SameAnswer s f a b luma chroma
 unfolding check
-alpha-and-padding s f a b luma chroma h =
+visible-colours-alone s f a b luma chroma h =
     let lines = ap (λ (ls : List Line). first (settleLines s ++ (customLine s ∷ ls))) (same-lines s f a b (length luma) (length chroma) h) in
     let judgements = same-judged s f _ _ (pictures (s .channels) f a b h) luma chroma (matrixOf (s .matrix)) in
     λ i. answer (lines i) (judgements i)
@@ -56,4 +56,4 @@ alpha-and-padding s f a b luma chroma h =
 -- so any two answers that are admitted for the two are equal
 pub one-answer-for-both : (s : Settings) (f : Frame) (a b luma chroma : List ℕ) → SameColours (s .channels) f a b
     → (r q : Checked) → checkedAnswer r ≡ check s f a luma chroma → checkedAnswer q ≡ check s f b luma chroma → r ≡ q
-one-answer-for-both s f a b luma chroma h r q x y = one-checked r q (x ∙ alpha-and-padding s f a b luma chroma h ∙ sym y)
+one-answer-for-both s f a b luma chroma h r q x y = one-checked r q (x ∙ visible-colours-alone s f a b luma chroma h ∙ sym y)

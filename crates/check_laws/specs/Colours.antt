@@ -1,4 +1,4 @@
--- What is said of check for two sources that differ only in alpha and in padding. Statements only.
+-- What is said of check for two sources that differ only in alpha, in padding and outside the window. Statements only.
 use Prim.Native.Nat.{ℕ}
 use mathlib.Core.Path.{_≡_}
 use mathlib.Core.List.{List}

@@ -67,8 +67,8 @@ pub part-shows : (c : YuvSourceChannels) (f : Frame) (source : List ℕ) (row n 
 part-shows c f source row n h =
     record {
       same = λ x l.
-      pixel-part c source (rowStart c f row) n (x * count c) (step-le x (f .width) (count c) n l h)
-      ∙ ap (pixelAt c source) (pixel-place c f row x);
+          pixel-part c source (rowStart c f row) n (x * count c) (step-le x (f .width) (count c) n l h)
+          ∙ ap (pixelAt c source) (pixel-place c f row x);
     }
 
 -- the part that starts there and ends with the visible row, by a count of channels that was worked out

@@ -77,7 +77,7 @@ window-rows s f a w b r =
     record {
       some = r .some;
       fits = λ row h.
-      omega (arith, r .fits (f .«first_row» + row) (omega (arith, h, w .within)), add-mul (f .«first_column») (f .width) (count (s .channels)));
+          omega (arith, r .fits (f .«first_row» + row) (omega (arith, h, w .within)), add-mul (f .«first_column») (f .width) (count (s .channels)));
     }
 
 pub laid : (s : Settings) (f : Frame) (source luma chroma : ℕ) → Sized f → Windowed f → Strided s f → lengthOff s f 1 source luma chroma ≡ false → Laid s f source luma chroma

@@ -1,4 +1,4 @@
--- THE THEOREMS of convert: one outcome for each input, and neither alpha nor the source's padding has a say. Assumes nothing.
+-- THE THEOREMS of convert: one outcome for each input, and of the source the colour samples of the window alone have a say. Assumes nothing.
 use mathlib.Core.Path.{_≡_, sym, ap, _∙_}
 use mathlib.Core.Bool.{cond}
 use mathlib.Core.List.{List, [], _∷_, _++_}
@@ -43,12 +43,12 @@ module _ (f : Frame) (px px′ : Picture) (h : SamePicture (f .width) (f .height
 
 -- ---- two sources of one length that agree at every visible colour sample give the same answer and the same planes
 module _ (s : Settings) (f : Frame) (a b luma chroma : List ℕ) (h : SameColours (s .channels) f a b) where
-  same-verdict : verdict s f a luma chroma ≡ verdict s f b luma chroma
+  pub same-verdict : verdict s f a luma chroma ≡ verdict s f b luma chroma
   same-verdict = ap (λ (ls : List Line). first (settleLines s ++ ls)) (same-lines s f a b (length luma) (length chroma) h)
 
-  pub alpha-and-padding : (convert s f a luma chroma ≡ convert s f b luma chroma) × (lumaAfter s f a luma chroma ≡ lumaAfter s f b luma chroma) × (chromaAfter s f a luma chroma ≡ chromaAfter s f b luma chroma)
+  pub visible-colours-alone : (convert s f a luma chroma ≡ convert s f b luma chroma) × (lumaAfter s f a luma chroma ≡ lumaAfter s f b luma chroma) × (chromaAfter s f a luma chroma ≡ chromaAfter s f b luma chroma)
   unfolding convert lumaAfter chromaAfter
-  alpha-and-padding =
+  visible-colours-alone =
       let p = pictures (s .channels) f a b h in (
         ap (λ (l : Line). answer l (given [])) same-verdict,
         λ i. kept (same-verdict i) (same-luma f _ _ p s (weightsOf s) luma i) luma,

@@ -1,5 +1,5 @@
-// Rings of two frames: each refusal alone, and with the one that comes next in the order, which is 18, 1 to 5, 7, 8, 11, 9, 10. No settings
-// are refused as 4.
+// Rings of two whole frames: each refusal alone, and with the one that comes next in the order, which is 18, 1 to 5, 7, 8, 11, 9, 10.
+// No settings are refused as 4, and no whole frame as 12.
 use crate::call;
 use cases::case;
 use convert_calls::rings;

@@ -12,14 +12,7 @@ fn at(subsampling: u32, width: usize, height: usize, left: usize, above: usize)
     c.matrix = 1;
     c.seed = 9;
     let d = case::laid(c, width, height, 1);
-    run::frame(case::windowed(
-        d,
-        left,
-        7 - width - left,
-        above,
-        7 - height - above,
-        0,
-    ));
+    run::frame(case::windowed(d, left, 7 - width - left, above, 7 - height - above, 0));
 }
 
 fn along_row(subsampling: u32, above: usize)

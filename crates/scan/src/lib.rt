@@ -7,6 +7,7 @@ ghost use Rattle.rules.specs.Frames.{window, tooLarge};
 ghost use Rattle.frames.specs.Rows.{LowPicture};
 ghost use Rattle.frames.specs.SourceRows.{WindowRows};
 ghost use Rattle.scan.specs.Fours.{LowFour};
+ghost use Rattle.scan.specs.RowSearch.{searchRow};
 ghost use Rattle.frames.specs.Tests.{Sized};
 use frames::rows;
 use rules::Frame;
@@ -64,6 +65,18 @@ fn rows_low(m: u16, channels: YuvSourceChannels, f: Frame, source: &[u16]) -> us
     height
 }
 
+// The first colour sample of a row that exceeds m.
+fn search_row(m: u16, channels: YuvSourceChannels, f: Frame, source: &[u16], row: usize) -> Search
+    requires { ⌜ Sized f ⌝ }
+    requires { ⌜ WindowRows channels f (length (now source)) ⌝ }
+    requires { ⌜ row < f .height ⌝ }
+    ensures { λ r. ⌜ r ≡ searchRow m f (window channels f (now (source .entry))) row ⌝ }
+{
+    let width = f.width;
+    let part = rows::source_row(channels, f, source, row);
+    row_search::first_high(m, channels, width, row, part)
+}
+
 // Refusal 10.
 pub fn too_large(m: u16, channels: YuvSourceChannels, f: Frame, source: &[u16]) -> Search
     requires { ⌜ Sized f ⌝ }
@@ -74,12 +87,10 @@ pub fn too_large(m: u16, channels: YuvSourceChannels, f: Frame, source: &[u16]) 
     if m == 65535 {
         return Search::Nothing;
     }
-    let width = f.width;
     let height = f.height;
     let mut row = rows_low(m, channels, f, source);
     while row < height {
-        let part = rows::source_row(channels, f, source, row);
-        let found = row_search::first_high(m, channels, width, row, part);
+        let found = search_row(m, channels, f, source, row);
         if is_found(found) {
             return found;
         }

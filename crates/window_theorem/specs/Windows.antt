@@ -1,4 +1,4 @@
--- What is said of a window that is the whole frame, and of two sources that agree on a window. Definitions and statements only.
+-- What is said of a window that is the whole frame, and of two rings that agree on their windows. Statements only.
 use Prim.Native.Nat.{ℕ, _<_}
 use mathlib.Core.Path.{_≡_}
 use mathlib.Core.List.{List}
@@ -6,7 +6,6 @@ use lib.ListN.{length}
 use Rattle.rules.specs.declared.Settings.{Settings}
 use Rattle.rules.specs.declared.Frame.{Frame}
 use Rattle.rules.specs.declared.YuvSourceChannels.{YuvSourceChannels}
-use Rattle.rules.specs.Answers.{Answer}
 use Rattle.rules.specs.Frames.{sourceSize}
 use Rattle.rules.specs.Convert.{convert, lumaAfter, chromaAfter}
 use Rattle.rules.specs.Ring.{convertRing}
@@ -28,14 +27,6 @@ pub record AsBefore (s : Settings) (f : Frame) (source luma chroma : List ℕ) :
   pub chromaLeft : chromaAfter s f source luma chroma ≡ former.chromaAfter s f source luma chroma
   pub checked : check s f source luma chroma ≡ former.check s f source luma chroma
   pub ring : (count : ℕ) → convertRing s f count source luma chroma ≡ former.convertRing s f count source luma chroma
-
--- ---- two sources
-
--- what convert does with a is what it does with b
-pub record SameConverted (s : Settings) (f : Frame) (a b luma chroma : List ℕ) : Type 0 where
-  pub answer : convert s f a luma chroma ≡ convert s f b luma chroma
-  pub lumaLeft : lumaAfter s f a luma chroma ≡ lumaAfter s f b luma chroma
-  pub chromaLeft : chromaAfter s f a luma chroma ≡ chromaAfter s f b luma chroma
 
 -- the sources of two rings agree at every colour sample of the window of each frame
 pub record SameFrames (c : YuvSourceChannels) (f : Frame) (count : ℕ) (a b : List ℕ) : Type 0 where

@@ -47,13 +47,14 @@ pub fn spoil_length(
         .saturating_mul(rows)
         .saturating_mul(frames as u128);
     let length = &mut lengths[which];
-    *length = match random.below(8) {
+    *length = match random.below(10) {
         0 => 0,
         1 => *length + stride.min(LONGEST as usize),
         2 => length.saturating_sub(padding as usize),
         3 | 4 => length.saturating_sub(1),
-        5 | 6 if mistaken <= LONGEST => mistaken as usize,
-        _ => *length + 1,
+        5 => *length + 1,
+        _ if mistaken > LONGEST => 0,
+        _ => mistaken as usize,
     };
 }
 

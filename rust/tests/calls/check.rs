@@ -2,9 +2,9 @@
 use super::call::Call;
 use super::change::{Change, ALL};
 use super::counts::{refused, Counts};
+use super::frame_counts;
 use super::library::{check, By};
 use super::random::Random;
-use super::window_counts;
 use crate::reference::{Frame, Refusal, Sample, Settings};
 
 const CALLS: usize = 60_000;
@@ -51,10 +51,6 @@ fn told(answer: Result<Option<Sample>, Refusal>) -> String {
     }
 }
 
-fn number(answer: Result<Option<Sample>, Refusal>) -> u32 {
-    answer.err().map_or(0, |refusal| refusal.number)
-}
-
 fn compare(random: &mut Random, mut call: Call, counts: &mut Counts) {
     let changes = match call.convert() {
         Ok(()) if !call.settings.is_custom() => change(random, &mut call),
@@ -63,7 +59,7 @@ fn compare(random: &mut Random, mut call: Call, counts: &mut Counts) {
     let by = By::draw(random, &call.settings);
     let answer = check_as_expected(by, &call, &changes);
     counts.add(told(answer));
-    window_counts::count(&call, 1, number(answer), counts);
+    frame_counts::count(&call, 1, answer.err(), counts);
     counts.add(format!("by {by:?}"));
     counts.add_many("elements judged", call.elements());
     if let ([change], Ok(_)) = (&changes[..], answer) {
@@ -81,7 +77,7 @@ fn random_frames() {
     }
     counts.print(&format!("check, {CALLS} calls"));
     counts.assert_refusals(&[1, 2, 3, 5, 6, 7, 8, 9, 10, 12, 18]);
-    window_counts::assert_met(&counts);
+    frame_counts::assert_met(&counts);
     counts.assert_reached(&[
         "accepted",
         "wrong luma",

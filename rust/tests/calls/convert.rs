@@ -1,12 +1,12 @@
 //! Convert: random frames, every element of every buffer compared; then what was written is checked.
 use super::call::Call;
 use super::counts::{refused, Counts};
+use super::frame_counts;
 use super::library::{check, convert, By};
 use super::random::Random;
-use super::window_counts;
 use crate::reference::Refusal;
 
-const CALLS: usize = 40_000;
+const CALLS: usize = 44_000;
 
 /// The answer and every element held against the reference. Gives the answer, and the buffers after the call.
 pub fn convert_as_expected(by: By, call: &Call) -> (Result<(), Refusal>, Call) {
@@ -23,8 +23,7 @@ fn compare(random: &mut Random, call: Call, counts: &mut Counts) {
     let (answer, got) = convert_as_expected(by, &call);
     counts.add(format!("by {by:?}"));
     counts.add_many("elements compared", call.elements());
-    let number = answer.err().map_or(0, |refusal| refusal.number);
-    window_counts::count(&call, 1, number, counts);
+    frame_counts::count(&call, 1, answer.err(), counts);
     match answer {
         Err(refusal) => counts.add(refused(refusal.number)),
         Ok(()) if call.settings.is_custom() => counts.add("done, custom pair"),
@@ -46,7 +45,7 @@ fn random_frames() {
     }
     counts.print(&format!("convert, {CALLS} calls"));
     counts.assert_refusals(&[1, 2, 3, 5, 7, 8, 9, 10, 12, 18]);
-    window_counts::assert_met(&counts);
+    frame_counts::assert_met(&counts);
     counts.assert_reached(&[
         "done, custom pair",
         "done and accepted by check",

@@ -55,10 +55,10 @@ fn stride(random: &mut Random, row: u128, rows: usize) -> usize {
 /// `of_width` is what the width alone needs.
 fn spoiled_stride(random: &mut Random, covered: u128, of_width: u128) -> usize {
     let [covered, of_width] = [covered, of_width].map(|n| usize::try_from(n).unwrap_or(usize::MAX));
-    match random.below(9) {
+    match random.below(10) {
         0..=3 => random.pick(&STRIDES),
         4 => covered.wrapping_add(1 << 32),
-        5 if of_width < covered => of_width,
+        5..=6 if of_width < covered => of_width,
         _ => covered.wrapping_sub(1),
     }
 }

@@ -1,13 +1,13 @@
 //! Rings: random ones, valid and damaged, every element of every buffer compared; and a ring of one frame beside convert.
 use super::convert::convert_as_expected;
 use super::counts::{refused, Counts};
+use super::frame_counts;
 use super::library::{convert_ring, By};
 use super::random::Random;
 use super::ring_call::{RingCall, REFUSED_COUNTS};
-use super::window_counts;
 use crate::reference::RingEnded;
 
-const CALLS: usize = 40_000;
+const CALLS: usize = 44_000;
 const REFUSED_FRAMES: [&str; 4] = [
     "refusal 10 of the only frame",
     "refusal 10 of the first frame",
@@ -80,8 +80,8 @@ fn compare(random: &mut Random, ring: &RingCall, counts: &mut Counts) {
     }
     counts.add(format!("by {by:?}"));
     counts.add_many("elements compared", ring.call.elements());
-    let number = answer.err().map_or(0, |ended| ended.refusal.number);
-    window_counts::count(&ring.call, ring.count, number, counts);
+    let refusal = answer.err().map(|ended| ended.refusal);
+    frame_counts::count(&ring.call, ring.count, refusal, counts);
     match answer {
         Err(ended) => count_ended(ring, &ended, counts),
         Ok(()) => {
@@ -106,7 +106,7 @@ fn random_rings() {
     }
     counts.print(&format!("rings, {CALLS} calls"));
     counts.assert_refusals(&[1, 2, 3, 5, 7, 8, 9, 10, 11, 12, 18]);
-    window_counts::assert_met(&counts);
+    frame_counts::assert_met(&counts);
     counts.assert_at_least(500, &["done, 1 frame", "done, 64 frames"]);
     counts.assert_at_least(300, &REFUSED_FRAMES);
     counts.assert_at_least(100, &WRONG_LENGTHS);

@@ -25,12 +25,9 @@ fn whole(height: usize) -> Window {
     }
 }
 
-/// Columns or rows on one side of a window: none in one case of three, else some.
+/// Columns or rows on one side of a window.
 fn margin(random: &mut Random, room: usize) -> usize {
-    match random.below(3) {
-        0 => 0,
-        _ => room.min(1 + random.below(4)),
-    }
+    room.min(random.below(4))
 }
 
 fn around(random: &mut Random, columns: usize, rows: usize, height: usize) -> Window {

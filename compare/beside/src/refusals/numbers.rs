@@ -16,13 +16,7 @@ fn named<T: From<u8>>(number: u8) -> String {
 }
 
 fn answer(settings: Settings) -> ConvertedNumbers {
-    let frame = Frame {
-        width: 1,
-        height: 1,
-        source_stride: 4,
-        luma_stride: 1,
-        chroma_stride: 2,
-    };
+    let frame = Frame::whole(1, 1, [4, 1, 2]);
     ours::convert(&settings, &frame, &[0; 4], &mut Planes::filled(1, 2, 0))
 }
 

@@ -82,14 +82,13 @@ length-off-requires : tie.Need-length-off-requires
 length-off-requires c κs = ((size-left (c .before .before .before .before), (corner-left (c .before .before), stride-left c)), lit≤ tt)
 
 returns-4 : tie.Need-returns-4
-returns-4 c =
-    (
-      sym (skipped _ _ _ (size-in (c .before .before .before .before .before .before))
+returns-4 c = (
+  sym (skipped _ _ _ (size-in (c .before .before .before .before .before .before))
       ∙ skipped _ _ _ (corner-in (c .before .before .before .before))
       ∙ skipped _ _ _ (stride-in (c .before .before))
       ∙ stopped _ _ _ (long (c .before) _ (c .if4 .taken))),
-      tt
-    )
+  tt,
+)
 
 most-requires : tie.Need-most-requires
 most-requires c κs = search needs

@@ -2,36 +2,31 @@
 use borrow.Author.Needs.{needs}
 use mathlib.Core.Path.{_≡_, sym, ap, _∙_}
 use mathlib.Core.Bool.{Bool}
-use Prim.Native.Nat.{ℕ, _*_, _/_, _%_, _-_, _≤_}
+use Prim.Native.Nat.{ℕ, _*_, _-_, _≤_}
 use native.Mathlib.Omega.{arith}
-use lib.Dec.{leb}
 use Rattle.rules.specs.declared.Frame.{Frame}
-use Rattle.rules.specs.declared.Pixel.{Pixel}
 use Rattle.rules.specs.declared.Search.{Search}
 use Rattle.rules.specs.declared.Search.the-variants.{Nothing}
 use Rattle.rules.specs.Channels.{Picture}
-use Rattle.rules.specs.Search.{firstBelow, failing, firstFailing, isFound}
-use Rattle.rules.specs.Frames.{window, channelOf, lowTest, tooLarge}
-use Rattle.plane_laws.proofs.Searches.{none-more, found-first, first-ext, clean-none}
+use Rattle.rules.specs.Search.{firstBelow, firstFailing, isFound}
+use Rattle.rules.specs.Frames.{window, lowTest, tooLarge}
+use Rattle.plane_laws.proofs.Searches.{none-more, found-first, clean-none}
 use Rattle.frames.specs.Rows.{LowPicture}
+use Rattle.scan.specs.RowSearch.{searchRow}
 use Rattle.scan.proofs.Lows.{all-low, rows-clean, picture-nothing}
 use Rattle.scan.proofs.too_large.Statement.{statement}
 use Rattle.scan.proofs.too_large.Tie as tie
 
--- the first sample of a row of a picture that exceeds m
-abbrev searchRow : ℕ → Frame → Picture → ℕ → Search
-searchRow m f px row = firstBelow (3 * f .width) (λ i. failing (lowTest m px row i) row i)
-
 abbrev Inv-loop : tie.InvT-loop
-Inv-loop m channels f source width height row₀ row =
+Inv-loop m channels f source height row₀ row =
     (row ≤ height) × (firstBelow row (searchRow m f (window channels f source)) ≡ Nothing)
 
 abbrev μ-loop : tie.MeasureT-loop
-μ-loop m channels f source width height row₀ row = height - row
+μ-loop m channels f source height row₀ row = height - row
 
 -- the first place in a row of the source
-abbrev search-row : tie.Start Inv-loop μ-loop → ℕ → Search
-search-row a row =
+abbrev found-in : tie.Start Inv-loop μ-loop → ℕ → Search
+found-in a row =
     let v = a .args in
     searchRow (v .m) (v .f) (window (v .channels) (v .f) (v .source .now)) row
 
@@ -40,16 +35,8 @@ none-in : (m n : ℕ) (f : Frame) (px : Picture) → LowPicture m px (f .width) 
 unfolding firstFailing
 none-in m n f px l = clean-none (lowTest m px) (3 * f .width) n (rows-clean m (f .width) n px l)
 
--- what was found in the row part, said of the source
-told : (c : tie.After-first-high Inv-loop μ-loop) → c .first-high .result ≡ search-row (c .before .before .before .before .before .before .before) (c .before .before .before .loop .row)
-told c =
-    let v = c .before .before .before .before .before .before .before .args in
-    let row = c .before .before .before .loop .row in
-    c .first-high .ensures
-    ∙ first-ext (3 * v .f .width) _ _ (λ i h. ap (λ (p : Pixel). failing (leb (channelOf (i % 3) p) (v .m)) row i) (c .before .source-row .ensures .shows .same (i / 3) (omega (arith, h))))
-
-asked : (c : tie.After-is-found Inv-loop μ-loop) (t : Bool) → c .is-found .result ≡ t → isFound (search-row (c .before .before .before .before .before .before .before .before) (c .before .before .before .before .loop .row)) ≡ t
-asked c t h = sym (c .is-found .ensures ∙ ap isFound (told (c .before))) ∙ h
+asked : (c : tie.After-is-found Inv-loop μ-loop) (t : Bool) → c .is-found .result ≡ t → isFound (found-in (c .before .before .before .before .before .before .before) (c .before .before .before .loop .row)) ≡ t
+asked c t h = sym (c .is-found .ensures ∙ ap isFound (c .before .search-row .ensures)) ∙ h
 
 returns : tie.Need-returns Inv-loop μ-loop
 returns c =
@@ -62,18 +49,17 @@ rows-low-requires c κs = c .before .before .pre
 loop-holds : tie.Need-loop-holds Inv-loop μ-loop
 loop-holds c = (c .rows-low .ensures .0, none-in _ _ (c .before .before .before .args .f) _ (c .rows-low .ensures .1))
 
-source-row-requires : tie.Need-source-row-requires Inv-loop μ-loop
-source-row-requires c κs = search needs
-
-first-high-requires : tie.Need-first-high-requires Inv-loop μ-loop
-first-high-requires c κs = (c .before .before .before .before .before .before .pre .0 .narrow, c .source-row .ensures .long)
+search-row-requires : tie.Need-search-row-requires Inv-loop μ-loop
+search-row-requires c κs = search needs
 
 is-found-requires : tie.Need-is-found-requires Inv-loop μ-loop
 is-found-requires c κs = tt
 
 returns-2 : tie.Need-returns-2 Inv-loop μ-loop
 unfolding tooLarge firstFailing
-returns-2 c = told (c .before .before) ∙ sym (found-first _ _ (c .before .before .before .before .before .loop .row) (c .before .before .before .before .loop-test .taken) (c .before .before .before .before .before .loop .inv .1) (asked (c .before) _ (c .if2 .taken)))
+returns-2 c =
+    c .before .before .search-row .ensures
+    ∙ sym (found-first _ _ (c .before .before .before .before .loop .row) (c .before .before .before .loop-test .taken) (c .before .before .before .before .loop .inv .1) (asked (c .before) _ (c .if2 .taken)))
 
 add-row : tie.Need-add-row Inv-loop μ-loop
 add-row c = omega arith
@@ -82,14 +68,14 @@ loop-less : tie.Need-loop-less Inv-loop μ-loop
 loop-less c = omega arith
 
 loop-again : tie.Need-loop-again Inv-loop μ-loop
-loop-again c = (omega arith, none-more _ (c .before .before .before .before .before .loop .row) (c .before .before .before .before .before .loop .inv .1) (asked (c .before) _ (c .if2 .left)))
+loop-again c = (omega arith, none-more _ (c .before .before .before .before .loop .row) (c .before .before .before .before .loop .inv .1) (asked (c .before) _ (c .if2 .left)))
 
 returns-3 : tie.Need-returns-3 Inv-loop μ-loop
 unfolding tooLarge firstFailing
 returns-3 c =
     let s = c .before .before .before .before .before in
     let e : c .before .loop .row ≡ s .args .f .height = omega arith in
-    sym (ap (λ (n : ℕ). firstBelow n (search-row s)) (sym e) ∙ c .before .loop .inv .1)
+    sym (ap (λ (n : ℕ). firstBelow n (found-in s)) (sym e) ∙ c .before .loop .inv .1)
 
 pub too-large-spec : {M : Type 1} → statement M
 too-large-spec =
@@ -100,8 +86,7 @@ too-large-spec =
     returns
     rows-low-requires
     loop-holds
-    source-row-requires
-    first-high-requires
+    search-row-requires
     is-found-requires
     returns-2
     add-row

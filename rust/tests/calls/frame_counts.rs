@@ -1,8 +1,10 @@
-//! How often a frame was a window, of which kind, and why it was refused.
+//! How often a call was taken, with which kind of window, and which window was refused why.
 use super::call::Call;
 use super::counts::{refused, Counts};
-use crate::reference::{pixel_elements, Frame, Settings};
+use crate::reference::{pixel_elements, Frame, Refusal, Settings};
 
+const TAKEN: &str = "taken";
+const REFUSED: &str = "refused";
 const WHOLE: &str = "whole frame";
 const FAR: &str = "window, far from the first pixel";
 const EDGES: [&str; 5] = [
@@ -109,32 +111,34 @@ fn count_length_refused(call: &Call, frames: usize, counts: &mut Counts) {
     }
 }
 
-/// Counts a call of so many frames by its window. The number is that of its refusal, or 0.
-pub fn count(call: &Call, frames: usize, number: u32, counts: &mut Counts) {
+/// Counts a call of so many frames.
+pub fn count(call: &Call, frames: usize, refusal: Option<Refusal>, counts: &mut Counts) {
     let Call {
         settings, frame, ..
     } = call;
-    match number {
-        0 if is_whole(frame) => counts.add(WHOLE),
-        0 => count_window(settings, frame, counts),
-        8 => count_stride_refused(settings, frame, counts),
-        9 => count_length_refused(call, frames, counts),
-        12 => count_window_refused(frame, counts),
+    counts.add(refusal.map_or(TAKEN, |_| REFUSED));
+    match refusal.map(|refusal| refusal.number) {
+        None if is_whole(frame) => counts.add(WHOLE),
+        None => count_window(settings, frame, counts),
+        Some(8) => count_stride_refused(settings, frame, counts),
+        Some(9) => count_length_refused(call, frames, counts),
+        Some(12) => count_window_refused(frame, counts),
         _ => {}
     }
 }
 
-/// That each kind was met, those that are refused somewhat less often than those that are not.
+/// That there were many calls of each kind.
 pub fn assert_met(counts: &Counts) {
     let subsamplings = 0..3;
     let corners = subsamplings.flat_map(|s| (0..4).map(move |at| corner(s, at / 2, at)));
-    counts.assert_at_least(6_000, &[WHOLE]);
-    counts.assert_at_least(1_000, &EDGES);
-    counts.assert_at_least(1_000, &[0, 1, 2, 3].map(layout));
-    counts.assert_at_least(400, &corners.collect::<Vec<_>>());
-    counts.assert_at_least(1_000, &[refused(12)]);
-    counts.assert_at_least(60, &BY_WINDOW);
+    counts.assert_at_least(20_000, &[TAKEN, REFUSED]);
+    counts.assert_at_least(8_000, &[WHOLE]);
+    counts.assert_at_least(2_000, &[0, 1, 2, 3].map(layout));
+    counts.assert_at_least(2_000, &EDGES);
+    counts.assert_at_least(600, &corners.collect::<Vec<_>>());
+    counts.assert_at_least(2_000, &[refused(12)]);
+    counts.assert_at_least(200, &BY_WINDOW);
     counts.assert_at_least(20, &BY_STRIDE);
-    counts.assert_at_least(20, &BY_LENGTH);
+    counts.assert_at_least(10, &BY_LENGTH);
     counts.assert_at_least(20, &[FAR]);
 }
