@@ -206,8 +206,9 @@ def moved_windows(library, draw, count):
 
 
 def rings(library, draw, count):
-    """Rings of which some have a sample that is too large or a wrong count: the whole answer and both planes. Gives the answers' refusals."""
-    refusals = []
+    """Rings of which some have a sample that is too large or a wrong count: the whole answer and both planes. Gives the answers' refusals, and
+    those of windows with columns and rows before them."""
+    refusals, of_windows = [], []
     for _ in range(count):
         s, f = drawn_layout(draw)
         frames = draw.choice((1, 2, 3, 4, 5, 8, 64))
@@ -221,7 +222,9 @@ def rings(library, draw, count):
         assert numbers_of(answer) == [written] + padded(refusal, 4)
         assert [plane[:] for plane in lent] == right
         refusals.append(answer.refusal)
-    return refusals
+        if f.first_column > 0 and f.first_row > 0:
+            of_windows.append(answer.refusal)
+    return refusals, of_windows
 
 
 def assert_not_loaded(name, error, message):
@@ -256,9 +259,9 @@ def main():
     refused_count, of_windows = too_large(library, random.Random(2026), 1000)
     assert refused_count > 500 and of_windows > 100
     refusals = moved_windows(library, random.Random(2026), 1000)
-    assert all(refusals.count(number) > 50 for number in (0, 8, 9, 12))
-    refusals = rings(library, random.Random(2026), 600)
-    assert all(refusals.count(number) > 30 for number in (0, 9, 10, 11))
+    assert all(refusals.count(number) > 30 for number in (0, 8, 9, 12))
+    refusals, of_windows = rings(library, random.Random(2026), 600)
+    assert all(refusals.count(number) > 30 and of_windows.count(number) > 15 for number in (0, 9, 10, 11))
     print('calls from Python: as they should be')
 
 

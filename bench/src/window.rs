@@ -43,7 +43,7 @@ fn half(settings: &Settings, whole: &Frame) -> Frame {
         width,
         luma_stride: width,
         chroma_stride: settings.chroma_width(width),
-        first_column: whole.width / 4 | 1,
+        first_column: (whole.width / 4) | 1,
         ..*whole
     }
 }

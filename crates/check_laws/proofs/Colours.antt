@@ -41,7 +41,7 @@ module _ (s : Settings) (f : Frame) (px px′ : Picture) (h : SamePicture (f .wi
       ap (λ (p : List Pixel). right s k (record { component = cond (isU (s .order) e) Cb Cr; pixels = p }) (getD chroma (row * f .«chroma_stride» + e) 0))
       (same-block f px px′ h (s .subsampling) row e b l))
 
-  same-judged : (m : Matrix) → judgedBy m s f px luma chroma ≡ judgedBy m s f px′ luma chroma
+  pub same-judged : (m : Matrix) → judgedBy m s f px luma chroma ≡ judgedBy m s f px′ luma chroma
   same-judged (Tabled k) = λ i. firstPlace (same-luma k i) (same-chroma k i)
   same-judged (Own p) = refl
 

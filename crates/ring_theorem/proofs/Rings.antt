@@ -65,7 +65,7 @@ unfolding first
 after [] ms ns t h = h
 after (l ∷ ls) ms ns t h = ap (earlier l) (after ls ms ns t h) ∙ earlier-assoc l (first (ls ++ ns)) t
 
-last-line : (a b c d t : Line) → first (a ∷ b ∷ c ∷ d ∷ t ∷ []) ≡ earlier (first (a ∷ b ∷ c ∷ passes ∷ d ∷ [])) t
+pub last-line : (a b c d t : Line) → first (a ∷ b ∷ c ∷ d ∷ t ∷ []) ≡ earlier (first (a ∷ b ∷ c ∷ passes ∷ d ∷ [])) t
 unfolding first
 last-line (refuses n v) b c d t = refl
 last-line passes (refuses n v) c d t = refl
