@@ -35,8 +35,11 @@ static uint16_t before_luma[LUMA], before_chroma[CHROMA];   /* of the frame befo
 static uint16_t ring_source[RING * SOURCE], ring_luma[RING * LUMA], ring_chroma[RING * CHROMA];
 static const uint16_t unwritten[LUMA]; /* as the ring's planes are before, all 0, which is no code of limited range */
 
-/* Of the window. */
-static uint16_t window_luma[WINDOW_HEIGHT * WINDOW_WIDTH], window_chroma[WINDOW_HEIGHT / 2 * WINDOW_WIDTH];
+/* Of the window; and of its pixels in a source of their own. */
+#define WINDOW_LUMA (WINDOW_HEIGHT * WINDOW_WIDTH)
+#define WINDOW_CHROMA (WINDOW_HEIGHT / 2 * WINDOW_WIDTH)
+static uint16_t window_luma[WINDOW_LUMA], window_chroma[WINDOW_CHROMA];
+static uint16_t cut_source[WINDOW_LUMA * 3], cut_luma[WINDOW_LUMA], cut_chroma[WINDOW_CHROMA];
 
 static const ayresokum_settings SETTINGS = {
     10, 13, AYRESOKUM_BT709, 0, 0, AYRESOKUM_LIMITED, AYRESOKUM_YUV420,
@@ -222,31 +225,33 @@ static ayresokum_frame window_from(size_t first_row)
     return window;
 }
 
-/* Luma is that of each pixel by itself, so that a window has what the whole frame has there. */
-static int is_luma_of_whole_frame(void)
+/* Whether the planes of the window at its place are those of its pixels cut out of the source. */
+static int is_as_cut_out(void)
 {
+    const ayresokum_frame frame = ayresokum_whole((ayresokum_frame){
+        .width = WINDOW_WIDTH, .height = WINDOW_HEIGHT,
+        .source_stride = WINDOW_WIDTH * 3, .luma_stride = WINDOW_WIDTH, .chroma_stride = WINDOW_WIDTH
+    });
     unsigned row;
-    for (row = 0; row < WINDOW_HEIGHT; row++) {
-        const uint16_t *whole = written_luma + (FIRST_ROW + row) * WIDTH + FIRST_COLUMN;
-        if (memcmp(window_luma + row * WINDOW_WIDTH, whole, WINDOW_WIDTH * sizeof *whole) != 0)
-            return 0;
-    }
-    return 1;
+    for (row = 0; row < WINDOW_HEIGHT; row++)
+        memcpy(cut_source + row * WINDOW_WIDTH * 3, source + ((FIRST_ROW + row) * WIDTH + FIRST_COLUMN) * 3,
+               WINDOW_WIDTH * 3 * sizeof *source);
+    ayresokum_convert(SETTINGS, frame, cut_source, WINDOW_LUMA * 3, cut_luma, WINDOW_LUMA, cut_chroma, WINDOW_CHROMA);
+    return memcmp(cut_luma, window_luma, sizeof cut_luma) == 0 && memcmp(cut_chroma, window_chroma, sizeof cut_chroma) == 0;
 }
 
 /* Converts a window and, where it is not refused, checks it. */
 static void tell_window(ayresokum_frame window)
 {
-    const size_t luma_length = WINDOW_HEIGHT * WINDOW_WIDTH, chroma_length = WINDOW_HEIGHT / 2 * WINDOW_WIDTH;
     const ayresokum_converted c = ayresokum_convert(SETTINGS, window, source, SOURCE,
-                                                    window_luma, luma_length, window_chroma, chroma_length);
+                                                    window_luma, WINDOW_LUMA, window_chroma, WINDOW_CHROMA);
     printf("Convert: ");
     if (c.refusal) {
         tell_refusal(c.refusal, c.sample);
         return;
     }
-    printf("written, luma %s; check: ", is_luma_of_whole_frame() ? "as in the whole frame" : "otherwise than in the whole frame");
-    tell(ayresokum_check(SETTINGS, window, source, SOURCE, window_luma, luma_length, window_chroma, chroma_length));
+    printf("written, %s its pixels cut out of the ramp; check: ", is_as_cut_out() ? "as" : "otherwise than");
+    tell(ayresokum_check(SETTINGS, window, source, SOURCE, window_luma, WINDOW_LUMA, window_chroma, WINDOW_CHROMA));
 }
 
 static void convert_window(void)
