@@ -168,7 +168,7 @@ pub struct Weights {
     pub cr_b: i32,
 }
 
-// Where a colour sample of the source stands: rows and pixels count from 0; channel 0 is red, 1 green and 2 blue.
+// Where a colour sample of the source stands: rows and pixels count from 0, at the window's corner; channel 0 is red, 1 green and 2 blue.
 #[repr(C)]
 pub struct SourcePlace {
     pub row: u32,
