@@ -39,6 +39,15 @@ fn for_all(mut each: impl FnMut(Settings)) {
     }
 }
 
+/// The same with each of the windows above.
+fn for_all_windows(mut each: impl FnMut(Settings, Window)) {
+    for_all(|settings| {
+        for window in WINDOWS {
+            each(settings, window);
+        }
+    });
+}
+
 fn twice(planes: &Planes) -> Planes {
     [planes.clone(), planes.clone()].into_iter().collect()
 }
@@ -166,14 +175,12 @@ fn assert_named_or_unread(sound: &Sensor, planes: &Planes, row: usize, column: u
 
 #[test]
 fn each_sample_above_m() {
-    for_all(|settings| {
-        for window in WINDOWS {
-            let sensor = Sensor::new(settings, window);
-            let planes = sensor.convert().1;
-            for row in 0..ROWS {
-                for column in 0..COLUMNS {
-                    assert_named_or_unread(&sensor, &planes, row, column);
-                }
+    for_all_windows(|settings, window| {
+        let sensor = Sensor::new(settings, window);
+        let planes = sensor.convert().1;
+        for row in 0..ROWS {
+            for column in 0..COLUMNS {
+                assert_named_or_unread(&sensor, &planes, row, column);
             }
         }
     });
@@ -199,13 +206,11 @@ fn with_all_else_above_m(sound: &Sensor) -> Sensor {
 
 #[test]
 fn all_else_above_m() {
-    for_all(|settings| {
-        for window in WINDOWS {
-            let sound = Sensor::new(settings, window);
-            let planes = sound.convert().1;
-            let told = format!("{settings:?} {window:?}");
-            assert_written(&with_all_else_above_m(&sound), &planes, &told);
-        }
+    for_all_windows(|settings, window| {
+        let sound = Sensor::new(settings, window);
+        let planes = sound.convert().1;
+        let told = format!("{settings:?} {window:?}");
+        assert_written(&with_all_else_above_m(&sound), &planes, &told);
     });
 }
 
@@ -225,35 +230,31 @@ fn end_to_end(frames: &[Sensor]) -> Vec<u16> {
 
 #[test]
 fn ring_as_one_by_one() {
-    for_all(|settings| {
-        for window in WINDOWS {
-            let frames = frames(settings, window);
-            let planes = frames.iter().map(|frame| frame.convert().1).collect();
-            let ring = frames[0].convert_ring(3, &end_to_end(&frames));
-            assert_eq!(ring, (Ok(()), planes), "{settings:?} {window:?}");
-        }
+    for_all_windows(|settings, window| {
+        let frames = frames(settings, window);
+        let planes = frames.iter().map(|frame| frame.convert().1).collect();
+        let ring = frames[0].convert_ring(3, &end_to_end(&frames));
+        assert_eq!(ring, (Ok(()), planes), "{settings:?} {window:?}");
     });
 }
 
 /// Green of the window's last pixel ends the ring at the last frame.
 #[test]
 fn ring_ended_by_a_sample() {
-    for_all(|settings| {
-        for window in WINDOWS {
-            let mut frames = frames(settings, window);
-            let [first, second, last] = &mut frames;
-            let row = window.first_row + window.height - 1;
-            let column = window.first_column + window.width - 1;
-            let [_, green, _] = last.colours(row, column);
-            last.source[green] = ABOVE;
-            let ended = RingEnded {
-                written: 2,
-                refusal: Refusal::TooLarge(last.place(row, column, Channel::Green).unwrap()),
-            };
-            let planes = [first.convert().1, second.convert().1, last.old_planes(1)];
-            let expected = (Err(ended), planes.into_iter().collect());
-            let ring = frames[0].convert_ring(3, &end_to_end(&frames));
-            assert_eq!(ring, expected, "{settings:?} {window:?}");
-        }
+    for_all_windows(|settings, window| {
+        let mut frames = frames(settings, window);
+        let [first, second, last] = &mut frames;
+        let row = window.first_row + window.height - 1;
+        let column = window.first_column + window.width - 1;
+        let [_, green, _] = last.colours(row, column);
+        last.source[green] = ABOVE;
+        let ended = RingEnded {
+            written: 2,
+            refusal: Refusal::TooLarge(last.place(row, column, Channel::Green).unwrap()),
+        };
+        let planes = [first.convert().1, second.convert().1, last.old_planes(1)];
+        let expected = (Err(ended), planes.into_iter().collect());
+        let ring = frames[0].convert_ring(3, &end_to_end(&frames));
+        assert_eq!(ring, expected, "{settings:?} {window:?}");
     });
 }

@@ -5,8 +5,8 @@ use numbers::SettingsNumbers;
 use rules::Frame;
 use rules::YuvBias;
 
-// Settings and a frame by numbers, whose window is last; the lengths of the buffers; a seed for the samples, 0 for document 01's row; and one sample
-// put at an index.
+// Settings and a frame by numbers, whose window is last; the lengths of the buffers; a seed for the samples, 0 for document 01's row;
+// and one sample put at an index.
 pub struct Case {
     pub depth: u32,
     pub precision: u32,

@@ -56,13 +56,13 @@ pixel-part c source a n at h =
         ∙ ap (λ (m : ℕ). getD source m 0) (sym (add-assoc a at k))
 
 -- pixel x of a row stands so many pixels after the first
-pub pixel-place : (c : YuvSourceChannels) (f : Frame) (row x : ℕ) → rowStart c f row + x * count c ≡ (f .«first_row» + row) * f .«source_stride» + (f .«first_column» + x) * count c
+pixel-place : (c : YuvSourceChannels) (f : Frame) (row x : ℕ) → rowStart c f row + x * count c ≡ (f .«first_row» + row) * f .«source_stride» + (f .«first_column» + x) * count c
 pixel-place c f row x =
     add-assoc ((f .«first_row» + row) * f .«source_stride») (f .«first_column» * count c) (x * count c)
     ∙ ap (λ (n : ℕ). (f .«first_row» + row) * f .«source_stride» + n) (sym (add-mul (f .«first_column») x (count c)))
 
 -- a part that starts where a row of the window starts shows that row
-pub part-shows : (c : YuvSourceChannels) (f : Frame) (source : List ℕ) (row n : ℕ) → f .width * count c ≤ n
+part-shows : (c : YuvSourceChannels) (f : Frame) (source : List ℕ) (row n : ℕ) → f .width * count c ≤ n
     → Shows c (take n (drop (rowStart c f row) source)) (window c f source) row (f .width)
 part-shows c f source row n h =
     record {

@@ -4,33 +4,23 @@ use mathlib.Core.List.{List, [], _∷_}
 use Prim.Native.Nat.{ℕ, _+_, _*_, _/_, _%_, _<_}
 use native.Mathlib.Omega.{arith}
 use lib.Dec.{leb}
-use lib.ListN.{getD}
 use Rattle.rules.specs.declared.Settings.{Settings}
 use Rattle.rules.specs.declared.Frame.{Frame}
 use Rattle.rules.specs.declared.Pixel.{Pixel}
 use Rattle.rules.specs.declared.YuvSourceChannels.{YuvSourceChannels}
 use Rattle.rules.specs.declared.YuvChromaSubsampling.{YuvChromaSubsampling}
 use Rattle.rules.specs.Ranges.{most}
-use Rattle.rules.specs.Channels.{Picture, count, redAt, greenAt, blueAt}
+use Rattle.rules.specs.Channels.{Picture}
 use Rattle.rules.specs.Blocks.{block, chromaWidth, chromaHeight}
 use Rattle.rules.specs.Frames.{channelOf, lowTest, tooLarge, window, placeLine, sizeLine, windowLine, strideLine, lengthLine, frameLines}
 use Rattle.plane_laws.proofs.Searches.{same-search}
 use Rattle.blocks.specs.Tiles.{leftOf, wideAt, topOf, twoAt}
 use Rattle.blocks.proofs.Tiles.{block-tiles, left-below, wide-below, top-below, two-below, tiles-same}
-use Rattle.frames.specs.SourceRows.{rowStart}
-use Rattle.frames.specs.Sources.{SameAt, SameColours, SamePicture}
-use Rattle.frames.proofs.Places.{pixel-place}
+use Rattle.frames.specs.Sources.{SameColours, SamePicture}
 
 pub pictures : (c : YuvSourceChannels) (f : Frame) (a b : List ℕ) → SameColours c f a b → SamePicture (f .width) (f .height) (window c f a) (window c f b)
 pictures c f a b h =
-    record {
-      same = λ row x p q. λ i. record { red = one (redAt c) (h .red) row x p q i; green = one (greenAt c) (h .green) row x p q i; blue = one (blueAt c) (h .blue) row x p q i };
-    }
-  where
-    one : (at : ℕ) → SameAt c f at a b → (row x : ℕ) → row < f .height → x < f .width
-        → let i = (f .«first_row» + row) * f .«source_stride» + (f .«first_column» + x) * count c + at in getD a i 0 ≡ getD b i 0
-    one at same row x p q =
-        ap (λ (i : ℕ). getD a (i + at) 0) (sym (pixel-place c f row x)) ∙ same row x p q ∙ ap (λ (i : ℕ). getD b (i + at) 0) (pixel-place c f row x)
+    record { same = λ row x p q. λ i. record { red = h .red row x p q i; green = h .green row x p q i; blue = h .blue row x p q i } }
 
 module _ (f : Frame) (px px′ : Picture) (h : SamePicture (f .width) (f .height) px px′) where
   pub same-scan : (m : ℕ) → tooLarge m f px ≡ tooLarge m f px′

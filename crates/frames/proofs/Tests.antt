@@ -71,9 +71,9 @@ filled {long} {stride} {wide} {rows} some covers h =
     record { some = some; covers = covers; fits = λ row b. let k = step-le row rows stride long b (omega arith) in omega arith }
 
 -- and those of the window lie among them
-window-rows : (s : Settings) (f : Frame) {long : ℕ} → Sized f → Windowed f → Strided s f → Rows long (f .«source_stride») ((f .«first_column» + f .width) * count (s .channels)) (f .«source_rows»)
+window-rows : (s : Settings) (f : Frame) {long : ℕ} → Windowed f → Rows long (f .«source_stride») ((f .«first_column» + f .width) * count (s .channels)) (f .«source_rows»)
     → WindowRows (s .channels) f long
-window-rows s f a w b r =
+window-rows s f w r =
     record {
       some = r .some;
       fits = λ row h.
@@ -90,7 +90,7 @@ laid s f source luma chroma a w b h =
     let g : 1 ≤ count (s .channels) = omega (arith, places (s .channels) .least) in
     let n : 1 * 1 ≤ (f .«first_column» + f .width) * count (s .channels) = mul-le-mul (let m : 1 ≤ f .«first_column» + f .width = omega (arith, a .wide) in m) g in
     record {
-      source = window-rows s f a w b (filled (omega (arith, b .source)) (b .source) (k .0));
+      source = window-rows s f w (filled (omega (arith, b .source)) (b .source) (k .0));
       luma = filled (omega (arith, a .wide, b .luma)) (b .luma) (l .0);
       chroma = filled (omega (arith, width-some (s .subsampling) (f .width) (a .wide), b .chroma)) (b .chroma) (l .1);
     }

@@ -6,13 +6,12 @@ use lib.ListN.{length, getD}
 use Rattle.rules.specs.declared.Frame.{Frame}
 use Rattle.rules.specs.declared.YuvSourceChannels.{YuvSourceChannels}
 use Rattle.rules.specs.Channels.{Picture, count, redAt, greenAt, blueAt}
-use Rattle.frames.specs.SourceRows.{rowStart}
 
 -- a and b agree at the place `at` of each visible pixel
 abbrev pub SameAt : YuvSourceChannels → Frame → ℕ → List ℕ → List ℕ → Type 0
 SameAt c f at a b =
     (row column : ℕ) → row < f .height → column < f .width
-    → getD a (rowStart c f row + column * count c + at) 0 ≡ getD b (rowStart c f row + column * count c + at) 0
+    → let i = (f .«first_row» + row) * f .«source_stride» + (f .«first_column» + column) * count c + at in getD a i 0 ≡ getD b i 0
 
 -- two sources of one length that agree at every visible colour sample: they differ only in alpha, in padding and outside the window
 pub record SameColours (c : YuvSourceChannels) (f : Frame) (a b : List ℕ) : Type 0 where
