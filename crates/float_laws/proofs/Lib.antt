@@ -1,6 +1,10 @@
 pub mod Values
+pub mod NearestWhole
 pub mod Rounding
 pub mod Halves
+pub mod Between
+pub mod AboveHalf
+pub mod Sums
 pub mod Bounds
 pub mod Accept
 pub mod Signs

@@ -51,20 +51,17 @@ pub fn get_forward_transform(
     }
 }
 
-// An x that is not negative to the nearest whole number, a half up: twice x is exact below 2^31, so nothing is lost before the half is added.
+// An x that is not negative to the nearest whole number, a half up, by sums in f64. 2^-26 lifts an exact half above itself and no other x as far as
+// a half, since the next f32 below a half is 2^-25 away at least. From 2^52 on an f64 has no fraction, so what 2^52 is added to is rounded.
 fn round_half_up(x: f32) -> u32
     requires { ⌜ lt x nought ≡ false ⌝ }
     ensures { λ r. ⌜ pos r ≡ rounded x ⌝ }
 {
-    if x >= 2147483648.0f32 {
-        return 2147483647;
+    if x < 2147483648.0f32 {
+        let lifted = x as f64 + 0.00000001490116119384765625;
+        return (lifted + 4503599627370496.0 - 4503599627370496.0) as u32;
     }
     if x > 0.0f32 {
-        let k = std::num::truncating_f32_to_u64(x * 2.0f32);
-        let h = (k + 1) / 2;
-        if h <= 2147483647 {
-            return h as u32;
-        }
         return 2147483647;
     }
     0
