@@ -4,6 +4,8 @@
 # make outputs   what the programs have to print, worked out afresh from document 01 (compare/*.py)
 # make test      the examples, the declarations of the exported functions held against each other, the calls from Python, the programs'
 #                outputs, and the tests of the Rust crate where cargo is there
+# make rounding  bench/rounding: the time of one rounding of a float weight and of one settle, with BEFORE=FOLDER also of the repository in
+#                FOLDER, where make lib was run; then every float
 # make x86-64    on a machine of another kind, what builds and runs x86-64 programs, from Debian's packages; as root
 # All but outputs and x86-64 need the Rattle kit (rt) and a C compiler.
 CC ?= cc
@@ -29,7 +31,7 @@ STRICT = -Wall -Wextra -pedantic -Werror
 RULES = $(shell find crates -name '*.rt' -o -name '*.antt') crates.txt
 SHARED := libayresokum.so.$(shell awk '/define AYRESOKUM_VERSION/ { print $$3 }' include/ayresokum.h)
 
-.PHONY: x86-64 cargo-variables lib demo examples outputs output-settings output-frames output-checks output-ring output-windows output-exports calls rust test clean
+.PHONY: x86-64 cargo-variables lib demo examples outputs output-settings output-frames output-checks output-ring output-windows output-exports calls rust test rounding clean
 
 x86-64:
 	.ci/x86-64 "$(X86_64)"
@@ -95,6 +97,23 @@ rust: build/libayresokum.a build/libayresokum.so
 	! command -v cargo > /dev/null || (cd rust && AYRESOKUM_LIB=$(CURDIR)/build cargo test --offline --release)
 
 test: rust examples outputs calls
+
+# The time of one rounding by itself: a library of its own, made from this repository and from BEFORE.
+build/rounding/now/libround_weight.a: $(RULES) $(wildcard bench/rounding/round_weight/src/*)
+	bench/rounding/build.sh . $(@D)
+
+build/rounding/before/libround_weight.a: $(if $(BEFORE),$(shell find $(BEFORE)/crates -name '*.rt' -o -name '*.antt'))
+	bench/rounding/build.sh $(BEFORE) $(@D)
+
+build/rounding/%/libround_weight.so: build/rounding/%/libround_weight.a
+	$(CC) -shared -o $@ -Wl,--whole-archive $< -Wl,--no-whole-archive
+
+build/rounding/program: bench/rounding/rounding.c include/ayresokum.h
+	mkdir -p $(@D)
+	$(CC) -std=c99 -O2 $(STRICT) -Iinclude -o $@ $< -ldl
+
+rounding: build/rounding/program build/rounding/now/libround_weight.so build/libayresokum.so $(if $(BEFORE),build/rounding/before/libround_weight.so)
+	$(RUN) build/rounding/program $(if $(BEFORE),before build/rounding/before/libround_weight.so $(BEFORE)/build/libayresokum.so) now build/rounding/now/libround_weight.so build/libayresokum.so
 
 clean:
 	rm -rf build

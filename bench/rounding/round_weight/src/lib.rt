@@ -1,0 +1,10 @@
+// The rounding of a float weight by itself, for the benchmark to call. The library that is sold has no such function.
+ghost use mathlib.Core.Path.{_≡_};
+ghost use Rattle.rules.specs.Weights.{rounded};
+
+#[no_mangle]
+pub extern "C" fn round_weight(x: f32) -> i32
+    ensures { λ r. ⌜ r ≡ rounded x ⌝ }
+{
+    weights::round_weight(x)
+}
