@@ -20,13 +20,17 @@ use Rattle.float_laws.proofs.Between.{held-between}
 abbrev pub lift : Float
 lift = fin false 1 (negsuc 25)
 
+-- a / c with 2 ^ -26 on top, as a 64-bit float
+abbrev pub lifted : ℕ → ℕ → Float
+lifted a c = round binary64 false (a * 2 ^ 26 + c) (c * 2 ^ 26)
+
 sub-mul : (a b c : ℕ) → (a - b) * c ≡ a * c - b * c
 sub-mul a b c = mul-comm (a - b) c ∙ mul-sub c a b ∙ ap (λ (z : ℕ). z - c * b) (mul-comm c a) ∙ ap (λ (z : ℕ). a * c - z) (mul-comm c b)
 
 -- ---- a whole number below 2 ^ 31
-whole-near : (a : ℕ) → a < 2 ^ 31 → NearestTo a (round binary64 false (a * 2 ^ 26 + 1) (1 * 2 ^ 26))
+whole-near : (a : ℕ) → a < 2 ^ 31 → NearestTo a (lifted a 1)
 whole-near a b =
-    let y = round binary64 false (a * 2 ^ 26 + 1) (1 * 2 ^ 26) in
+    let y = lifted a 1 in
     let q = den y in
     let k = held-between (a * 2 ^ 26 + 1) (1 * 2 ^ 26) 21 1053 (a * 2 ^ 21) (a * 2 ^ 21 + 1) (lit< tt) (omega arith) refl tt (omega arith) (omega arith) (omega arith) (omega arith) (omega arith) in
     let lo : a * q * 2 ^ 21 ≤ num y * 2 ^ 21 = le-trans (le-of-eq (mul-right-comm a q (2 ^ 21))) (k .1) in
@@ -51,7 +55,7 @@ module _ (m e n : ℕ) (M : m < 2 ^ 24) (E : 0 < e) (lo : n * (e * 2 * 2) ≤ m 
   small = le-of-mul-le-mul-right {k = e * 4} (le-trans (le-of-eq (sym (mul-assoc n e 4))) (omega (arith, by-four, lo, M, E))) (omega arith)
 
   abbrev z : Float
-  z = round binary64 false (m * 2 ^ 26 + e * 2) (e * 2 * 2 ^ 26)
+  z = lifted m (e * 2)
 
   times : n * 2 ^ 26 * (e * 2 * 2 ^ 26) ≡ n * e * 2 ^ 53
   times = mul-mul-mul-comm n (2 ^ 26) (e * 2) (2 ^ 26) ∙ ap (λ (x : ℕ). x * 2 ^ 52) (sym (mul-assoc n e 2)) ∙ mul-assoc (n * e) 2 (2 ^ 52)
@@ -80,7 +84,7 @@ module _ (m e n : ℕ) (M : m < 2 ^ 24) (E : 0 < e) (lo : n * (e * 2 * 2) ≤ m 
       (k .0, (omega (arith, k .1, s, l, Q), omega (arith, k .2, s, u, Q)))
 
 -- ---- a 32-bit float x that is not negative and below 2 ^ 31
-pub sum-is : (x : Float) → lt x nought ≡ false → lt x top ≡ true → add binary64 x lift ≡ round binary64 false (num x * 2 ^ 26 + den x) (den x * 2 ^ 26)
+pub sum-is : (x : Float) → lt x nought ≡ false → lt x top ≡ true → add binary64 x lift ≡ lifted (num x) (den x)
 unfolding lt add sum
 sum-is nan a b = no b
 sum-is (inf true) a b = no (sym a)
@@ -93,7 +97,7 @@ sum-is (fin true m e) a b = go (ltb (m * up e * 2 ^ 26) (1 * 1 * down e)) (nltb�
 
     go : (t : Bool) → (T (not t) → 1 * 1 * down e ≤ m * up e * 2 ^ 26)
         → cond t (round binary64 false (1 * 1 * down e - m * up e * 2 ^ 26) (down e * 2 ^ 26)) (round binary64 (true && ltb (1 * 1 * down e) (m * up e * 2 ^ 26)) (m * up e * 2 ^ 26 - 1 * 1 * down e) (down e * 2 ^ 26))
-        ≡ round binary64 false (m * up e * 2 ^ 26 + down e) (down e * 2 ^ 26)
+        ≡ lifted (m * up e) (down e)
     go true f = ap (λ (z : ℕ). round binary64 false z (down e * 2 ^ 26)) (omega (arith, none))
     go false f = absurd (omega (arith, none, f tt, down-pos e))
 
@@ -109,19 +113,19 @@ few-digits : (s : Bool) (m k : ℕ) → T (fits binary32 (fin s m (negsuc k))) �
 few-digits true m k f a = omega (arith, minus-nought m (negsuc k) a)
 few-digits false m k f a = let h = fits-small m (negsuc k) f in omega arith
 
-fraction-at : (m c e : ℕ) → c ≡ e * 2 → 0 < e → m < 2 ^ 24 → NearestTo (halfUp m c) (round binary64 false (m * 2 ^ 26 + c) (c * 2 ^ 26)) × (halfUp m c ≤ 2 ^ 24)
+fraction-at : (m c e : ℕ) → c ≡ e * 2 → 0 < e → m < 2 ^ 24 → NearestTo (halfUp m c) (lifted m c) × (halfUp m c ≤ 2 ^ 24)
 fraction-at m c e w E M =
-    subst (λ (c : ℕ). NearestTo (halfUp m c) (round binary64 false (m * 2 ^ 26 + c) (c * 2 ^ 26)) × (halfUp m c ≤ 2 ^ 24)) (sym w)
+    subst (λ (c : ℕ). NearestTo (halfUp m c) (lifted m c) × (halfUp m c ≤ 2 ^ 24)) (sym w)
     (let h = within-half m (e * 2) (omega arith) in
     (fraction-near m e (halfUp m (e * 2)) M E (h .0) (h .1), small m e (halfUp m (e * 2)) M E (h .0) (h .1)))
 
-whole-at : (a : ℕ) → a < 2 ^ 31 → NearestTo (halfUp a 1) (round binary64 false (a * 2 ^ 26 + 1) (1 * 2 ^ 26)) × (halfUp a 1 < 2 ^ 31)
+whole-at : (a : ℕ) → a < 2 ^ 31 → NearestTo (halfUp a 1) (lifted a 1) × (halfUp a 1 < 2 ^ 31)
 whole-at a h =
     let e : halfUp a 1 ≡ a = omega arith in
-    (subst (λ (n : ℕ). NearestTo n (round binary64 false (a * 2 ^ 26 + 1) (1 * 2 ^ 26))) (sym e) (whole-near a h), omega arith)
+    (subst (λ (n : ℕ). NearestTo n (lifted a 1)) (sym e) (whole-near a h), omega arith)
 
 pub near : (x : Float) → T (fits binary32 x) → lt x nought ≡ false → lt x top ≡ true
-    → NearestTo (halfUp (num x) (den x)) (round binary64 false (num x * 2 ^ 26 + den x) (den x * 2 ^ 26)) × (halfUp (num x) (den x) < 2 ^ 31)
+    → NearestTo (halfUp (num x) (den x)) (lifted (num x) (den x)) × (halfUp (num x) (den x) < 2 ^ 31)
 near nan f a b = whole-at 0 (lit< tt)
 near (inf s) f a b = whole-at 0 (lit< tt)
 near (fin s m (pos k)) f a b = whole-at (m * 2 ^ k) (let h = below-top (fin s m (pos k)) a b in omega arith)
