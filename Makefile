@@ -99,21 +99,25 @@ rust: build/libayresokum.a build/libayresokum.so
 test: rust examples outputs calls
 
 # The time of one rounding by itself: a library of its own, made from this repository and from BEFORE.
-build/rounding/now/libround_weight.a: $(RULES) $(wildcard bench/rounding/round_weight/src/*)
-	bench/rounding/build.sh . $(@D)
+build/rounding/now.a: $(RULES)
+	mkdir -p $(@D)
+	rt staticlib round_weight > build/rounding/now.log 2>&1 || (cat build/rounding/now.log; false)
+	cp target/staticlib/libround_weight.a $@
 
-build/rounding/before/libround_weight.a: $(if $(BEFORE),$(shell find $(BEFORE)/crates -name '*.rt' -o -name '*.antt'))
-	bench/rounding/build.sh $(BEFORE) $(@D)
+build/rounding/before.a: $(RULES) $(if $(BEFORE),$(shell find $(BEFORE)/crates -name '*.rt' -o -name '*.antt'))
+	mkdir -p $(@D)
+	bench/rounding/build.sh $(BEFORE) > build/rounding/before.log 2>&1 || (cat build/rounding/before.log; false)
+	cp target/rounding/target/staticlib/libround_weight.a $@
 
-build/rounding/%/libround_weight.so: build/rounding/%/libround_weight.a
+build/rounding/%.so: build/rounding/%.a
 	$(CC) -shared -o $@ -Wl,--whole-archive $< -Wl,--no-whole-archive
 
 build/rounding/program: bench/rounding/rounding.c include/ayresokum.h
 	mkdir -p $(@D)
 	$(CC) -std=c99 -O2 $(STRICT) -Iinclude -o $@ $< -ldl
 
-rounding: build/rounding/program build/rounding/now/libround_weight.so build/libayresokum.so $(if $(BEFORE),build/rounding/before/libround_weight.so)
-	$(RUN) build/rounding/program $(if $(BEFORE),before build/rounding/before/libround_weight.so $(BEFORE)/build/libayresokum.so) now build/rounding/now/libround_weight.so build/libayresokum.so
+rounding: build/rounding/program build/rounding/now.so build/libayresokum.so $(if $(BEFORE),build/rounding/before.so)
+	$(RUN) build/rounding/program $(if $(BEFORE),before build/rounding/before.so $(BEFORE)/build/libayresokum.so) now build/rounding/now.so build/libayresokum.so
 
 clean:
 	rm -rf build

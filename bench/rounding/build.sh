@@ -1,18 +1,19 @@
 #!/usr/bin/env bash
-# bench/rounding/build.sh REPOSITORY FOLDER: proves weights::round_weight of the repository, with a function over it that C can call, and writes
-# libround_weight.a to FOLDER. The proofs are kept below FOLDER, so that a second run takes seconds.
+# bench/rounding/build.sh REPOSITORY: proves weights::round_weight as another commit has it, with this commit's crate round_weight over it, in
+# target/rounding, and leaves libround_weight.a in target/rounding/target/staticlib.
 set -eu
-if [ $# -ne 2 ]; then
+if [ $# -ne 1 ]; then
     sed -n '2,3s/^# //p' "$0" >&2
     exit 2
 fi
-here=$(cd "$(dirname "$0")" && pwd)
-work=$2/proofs
+other=$(cd "$1" && pwd)
+cd "$(dirname "$0")/../.."
+work=target/rounding
 mkdir -p "$work"
 rm -rf "$work/crates"
-cp -r "$1/crates" "$work/crates"
-cp -r "$here/round_weight" "$work/crates/round_weight"
-cp "$1/crates.txt" "$work/crates.txt"
-echo 'round_weight: rules weights' >>"$work/crates.txt"
-(cd "$work" && rt staticlib round_weight)
-cp "$work/target/staticlib/libround_weight.a" "$2/"
+cp -r "$other/crates" "$work/crates"
+rm -rf "$work/crates/round_weight"
+cp -r crates/round_weight "$work/crates/round_weight"
+{ grep -v '^round_weight:' "$other/crates.txt"; grep '^round_weight:' crates.txt; } >"$work/crates.txt"
+cd "$work"
+rt staticlib round_weight

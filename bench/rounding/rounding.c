@@ -1,7 +1,7 @@
-/* rounding (NAME ROUND_WEIGHT LIBRARY)...: of each pair of shared libraries, libround_weight.so and libayresokum.so, the nanoseconds that one
- * rounding of a float weight and one ayresokum_settle take, as a table in markdown. The pairs are timed in turn, each time in a process of its
- * own: in one process the second of two functions that are called from one place is slower than it is alone. Then every 32-bit float is rounded
- * by the last pair's function and by document 01's rule. */
+/* rounding (NAME ROUND_WEIGHT LIBRARY)...: of each pair of shared libraries, that of the crate round_weight and libayresokum.so, the
+ * nanoseconds that one rounding of a float weight and one ayresokum_settle take, as a table in markdown. The pairs are timed in turn, each time
+ * in a process of its own: in one process the second of two functions that are called from one place is slower than it is alone. Then every
+ * 32-bit float is rounded by the last pair's function and by document 01's rule. */
 #define _POSIX_C_SOURCE 200809L
 #include <ayresokum.h>
 #include <dlfcn.h>

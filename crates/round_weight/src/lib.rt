@@ -1,4 +1,4 @@
-// The rounding of a float weight by itself, for the benchmark to call. The library that is sold has no such function.
+// One rounding of a float weight by itself, for `make rounding` to time. The library has no such function.
 ghost use mathlib.Core.Path.{_≡_};
 ghost use Rattle.rules.specs.Weights.{rounded};
 
