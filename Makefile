@@ -31,7 +31,7 @@ STRICT = -Wall -Wextra -pedantic -Werror
 RULES = $(shell find crates -name '*.rt' -o -name '*.antt') crates.txt
 SHARED := libayresokum.so.$(shell awk '/define AYRESOKUM_VERSION/ { print $$3 }' include/ayresokum.h)
 
-.PHONY: x86-64 cargo-variables lib demo examples outputs output-settings output-frames output-checks output-ring output-windows output-exports calls rust test rounding clean
+.PHONY: x86-64 cargo-variables lib demo examples outputs output-settings output-frames output-checks output-ring output-windows output-exports calls rust test rounding FORCE clean
 
 x86-64:
 	.ci/x86-64 "$(X86_64)"
@@ -104,7 +104,8 @@ build/rounding/now.a: $(RULES)
 	rt staticlib round_weight > build/rounding/now.log 2>&1 || (cat build/rounding/now.log; false)
 	cp target/staticlib/libround_weight.a $@
 
-build/rounding/before.a: $(RULES) $(if $(BEFORE),$(shell find $(BEFORE)/crates -name '*.rt' -o -name '*.antt'))
+# BEFORE may name another folder than the last time, so this one is always made anew; its proofs are kept.
+build/rounding/before.a: FORCE
 	mkdir -p $(@D)
 	bench/rounding/build.sh $(BEFORE) > build/rounding/before.log 2>&1 || (cat build/rounding/before.log; false)
 	cp target/rounding/target/staticlib/libround_weight.a $@
@@ -118,6 +119,8 @@ build/rounding/program: bench/rounding/rounding.c include/ayresokum.h
 
 rounding: build/rounding/program build/rounding/now.so build/libayresokum.so $(if $(BEFORE),build/rounding/before.so)
 	$(RUN) build/rounding/program $(if $(BEFORE),before build/rounding/before.so $(BEFORE)/build/libayresokum.so) now build/rounding/now.so build/libayresokum.so
+
+FORCE:
 
 clean:
 	rm -rf build

@@ -90,28 +90,38 @@ static double nanoseconds(void)
 
 static volatile int32_t kept;
 
-static double time_of_rounding(round_weight *round, const float *values, size_t count)
+/* One pass over values, or over the accepted settings; the sum keeps the compiler from leaving a call out. */
+typedef uint32_t pass_over(const libraries *of, const float *values, size_t count);
+
+static uint32_t round_all(const libraries *of, const float *values, size_t count)
 {
-    const size_t passes = ROUNDINGS / count;
-    const double before = nanoseconds();
+    round_weight *const round = of->round;
     uint32_t sum = 0;
-    size_t pass, i;
-    for (pass = 0; pass < passes; pass++)
-        for (i = 0; i < count; i++)
-            sum += (uint32_t)round(values[i]);
-    kept = (int32_t)sum;
-    return (nanoseconds() - before) / (double)(passes * count);
+    size_t i;
+    for (i = 0; i < count; i++)
+        sum += (uint32_t)round(values[i]);
+    return sum;
 }
 
-static double time_of_settle(settle *settle, size_t count)
+static uint32_t settle_all(const libraries *of, const float *values, size_t count)
 {
-    const size_t passes = SETTLES / count;
+    settle *const settle = of->settle;
+    uint32_t sum = 0;
+    size_t i;
+    (void)values;
+    for (i = 0; i < count; i++)
+        sum += (uint32_t)settle(accepted[i]).yg;
+    return sum;
+}
+
+static double time_of_a_call(pass_over *pass, const libraries *of, const float *values, size_t count, size_t calls)
+{
+    const size_t passes = calls / count;
     const double before = nanoseconds();
     uint32_t sum = 0;
-    size_t pass, i;
-    for (pass = 0; pass < passes; pass++)
-        for (i = 0; i < count; i++)
-            sum += (uint32_t)settle(accepted[i]).yg;
+    size_t i;
+    for (i = 0; i < passes; i++)
+        sum += pass(of, values, count);
     kept = (int32_t)sum;
     return (nanoseconds() - before) / (double)(passes * count);
 }
@@ -201,21 +211,19 @@ static times longest(void)
 
 static times measure(char **names)
 {
-    const libraries of = load(names);
+    const libraries of = load(names), empty = { NULL, nothing, NULL };
     const size_t settings = prepare(&of);
-    round_weight *volatile empty = nothing;
     times best = longest();
     int i;
     for (i = 0; i < TIMED; i++) {
         times one;
-        one.weight = time_of_rounding(of.round, weights, SETTINGS * WEIGHTS);
-        one.edge = time_of_rounding(of.round, edge_values, EDGES);
-        one.settle = time_of_settle(of.settle, settings);
-        one.empty = INFINITY;
+        one.weight = time_of_a_call(round_all, &of, weights, SETTINGS * WEIGHTS, ROUNDINGS);
+        one.edge = time_of_a_call(round_all, &of, edge_values, EDGES, ROUNDINGS);
+        one.settle = time_of_a_call(settle_all, &of, NULL, settings, SETTLES);
+        one.empty = time_of_a_call(round_all, &empty, weights, SETTINGS * WEIGHTS, ROUNDINGS);
         one.settings = settings;
         keep_least_times(&best, one);
     }
-    best.empty = time_of_rounding(empty, weights, SETTINGS * WEIGHTS);
     return best;
 }
 
