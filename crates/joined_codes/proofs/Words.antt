@@ -30,7 +30,7 @@ use Rattle.joined_weights.specs.declared.JoinedWeights.{JoinedWeights}
 use Rattle.joined_weights.specs.declared.FrameWeights.{FrameWeights}
 use Rattle.joined_weights.specs.JoinedWeights.{joined_weights, shared_weights, scaled_start, scaled_weights, bits_below, frame_weights}
 use Rattle.joined_weights.proofs.Sizes.{bias_y_lem, bias_uv_lem, luma_within, chroma_within}
-use Rattle.joined_codes.specs.Sums.{joined_samples, joined_sum, cleared, first_word, second_word_lem, SumFits}
+use Rattle.joined_codes.specs.Sums.{joined_samples, joined_sum, cleared, first_word, second_word, SumFits}
 use Rattle.joined_codes.specs.Packed.{colours_of}
 use Rattle.joined_codes.proofs.Sums.{HoldsCodes, joined_holds, shared_holds, joined_fits, shared_fits, colours_low}
 
@@ -76,7 +76,7 @@ module _ (k low high v : ℕ) (made : v ≡ low + high * 4294967296) (room : low
         (let q = kept in
         let x : low / whole * whole ≤ low = omega (arith, div-add-mod' low whole) in omega (arith, q, x, room, times (low / whole)))
 
-    pub second_kept : second_word_lem (cleared v ((8192 * t - 1) * 4294967297)) ≡ high / (8192 * t) * t
+    pub second_kept : second_word (cleared v ((8192 * t - 1) * 4294967297)) ≡ high / (8192 * t) * t
     second_kept =
         rw e
         (let q = kept in
@@ -104,14 +104,14 @@ module _ (s : Settings) (deep : s.depth ≤ 16) {total : ℤ} {a b : ℕ} (h : H
         ∙ ap (λ (n : ℕ). n * t) h.first
         ∙ packed_is s.packing s.depth a
 
-    pub second_word_lem : second_word_lem (cleared v below) ≡ packed s.packing s.depth b
+    pub second_word_lem : second_word (cleared v below) ≡ packed s.packing s.depth b
     second_word_lem =
-        ap (λ (n : ℕ). second_word_lem (cleared v n)) eb
+        ap (λ (n : ℕ). second_word (cleared v n)) eb
         ∙ second_kept k h.low h.high v made h.room (power_small s.packing s.depth) t (power_is s.packing s.depth)
         ∙ ap (λ (n : ℕ). n * t) h.second
         ∙ packed_is s.packing s.depth b
 
-    pub storable : a < 2 ^ s.depth → b < 2 ^ s.depth → (first_word (cleared v below) ≤ 65535) × (second_word_lem (cleared v below) ≤ 65535)
+    pub storable : a < 2 ^ s.depth → b < 2 ^ s.depth → (first_word (cleared v below) ≤ 65535) × (second_word (cleared v below) ≤ 65535)
     storable la lb =
         let x : a ≤ most s.depth = omega arith in
         let y : b ≤ most s.depth = omega arith in

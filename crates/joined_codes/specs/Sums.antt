@@ -19,8 +19,8 @@ cleared v below = v - bit_and v below
 abbrev pub first_word : ℕ → ℕ
 first_word kept = kept % 4294967296 / 8192
 
-abbrev pub second_word_lem : ℕ → ℕ
-second_word_lem kept = kept / 4294967296 / 8192
+abbrev pub second_word : ℕ → ℕ
+second_word kept = kept / 4294967296 / 8192
 
 -- the start is below 2^61 and no product is above 2^13 × 65,535 × (2^32 + 1), so that no step on the way to the sum leaves 64 bits
 pub record SumFits (j : JoinedWeights) (a b c : ℕ) : Type 0 where

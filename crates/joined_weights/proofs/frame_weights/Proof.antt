@@ -45,11 +45,11 @@ module _ (c : tie.After-chroma-row2) where
   abbrev u : Usable s w
   u = c.before.before.before.before.before.before.pre
 
-  y_bias : c.before.before.before.before.before.get-yuv-range.result.bias_y ≡ y_bias s.range s.depth
-  y_bias = ap (λ (r : YuvChromaRange). r.bias_y) c.before.before.before.before.before.get-yuv-range.ensures
+  y_bias_lem : c.before.before.before.before.before.get-yuv-range.result.bias_y ≡ y_bias s.range s.depth
+  y_bias_lem = ap (λ (r : YuvChromaRange). r.bias_y) c.before.before.before.before.before.get-yuv-range.ensures
 
-  uv_bias : c.before.before.before.before.before.get-yuv-range.result.bias_uv ≡ uv_bias s.depth
-  uv_bias = ap (λ (r : YuvChromaRange). r.bias_uv) c.before.before.before.before.before.get-yuv-range.ensures
+  uv_bias_lem : c.before.before.before.before.before.get-yuv-range.result.bias_uv ≡ uv_bias s.depth
+  uv_bias_lem = ap (λ (r : YuvChromaRange). r.bias_uv) c.before.before.before.before.before.get-yuv-range.ensures
 
   first : c.before.before.chroma-row.result ≡ chroma_row (is_u s.order 0) w
   first = c.before.before.chroma-row.ensures ∙ ap (λ (b : Bool). chroma_row b w) c.before.before.before.is-u.ensures
@@ -59,14 +59,14 @@ module _ (c : tie.After-chroma-row2) where
 
 luma-weights-requires : tie.Need-luma-weights-requires
 luma-weights-requires c κs = (
-  ((u c).reach, subst⁻¹ (λ (n : ℕ). n + 1 ≤ 2 ^ (s c).depth) (y_bias c) (bias_y_lem (s c).depth (s c).range (u c).reach.shallow)),
+  ((u c).reach, subst⁻¹ (λ (n : ℕ). n + 1 ≤ 2 ^ (s c).depth) (y_bias_lem c) (bias_y_lem (s c).depth (s c).range (u c).reach.shallow)),
   subst⁻¹ (NoWeightAbove (2 ^ (s c).precision)) c.before.before.before.before.luma-row.ensures (luma_within (u c)),
 )
 
 chroma-weights-requires : tie.Need-chroma-weights-requires
 chroma-weights-requires d κs =
     let c = d.before in (
-      ((u c).reach, subst⁻¹ (λ (n : ℕ). n + 1 ≤ 2 ^ (s c).depth) (uv_bias c) (bias_uv_lem (s c).depth (u c).reach.shallow)),
+      ((u c).reach, subst⁻¹ (λ (n : ℕ). n + 1 ≤ 2 ^ (s c).depth) (uv_bias_lem c) (bias_uv_lem (s c).depth (u c).reach.shallow)),
       (
         subst⁻¹ (NoWeightAbove (2 ^ (s c).precision)) (first c) (chroma_within (u c) (is_u (s c).order 0)),
         subst⁻¹ (NoWeightAbove (2 ^ (s c).precision)) (second c) (chroma_within (u c) (is_u (s c).order 1)),
@@ -82,8 +82,8 @@ returns d =
     let c = d.before.before.before in
     let y = c.before.before.before.before.luma-row.ensures in
     λ i. record {
-      luma = (d.before.before.luma-weights.ensures ∙ (λ j. shared_weights (pos (scaled_start (s c) (y_bias c j))) (scaled_weights (s c) (y j)))) i;
-      chroma = (d.before.chroma-weights.ensures ∙ (λ j. joined_weights (pos (scaled_start (s c) (uv_bias c j))) (scaled_weights (s c) (first c j)) (pos (scaled_start (s c) (uv_bias c j))) (scaled_weights (s c) (second c j)))) i;
+      luma = (d.before.before.luma-weights.ensures ∙ (λ j. shared_weights (pos (scaled_start (s c) (y_bias_lem c j))) (scaled_weights (s c) (y j)))) i;
+      chroma = (d.before.chroma-weights.ensures ∙ (λ j. joined_weights (pos (scaled_start (s c) (uv_bias_lem c j))) (scaled_weights (s c) (first c j)) (pos (scaled_start (s c) (uv_bias_lem c j))) (scaled_weights (s c) (second c j)))) i;
       below = d.bits_below.ensures i;
     }
 
