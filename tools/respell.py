@@ -58,8 +58,19 @@ def declared(top):
     return names
 
 
+def imported(top):
+    """Names that some file takes from a library: there the library's spelling is the one that stands."""
+    crates = {path.name for path in top.glob("crates/*")}
+    names = set()
+    for path in antt_files(top):
+        for module, listed in re.findall(r"^use ([A-Za-z_.]+?)\.\{(.*)\}", path.read_text(), flags=re.M):
+            if module.split(".")[:1] != ["Rattle"] or module.split(".")[1] not in crates:
+                names |= {name.split(" as ")[0] for name in re.split(r",\s*", listed)}
+    return names
+
+
 def renaming(top):
-    names = declared(top)
+    names = declared(top) - imported(top)
     new = {n: snake(n) for n in names if snake(n) != n}
     # A lemma that would have its function's name gets _lem.
     functions = {name for old, name in new.items() if "-" not in old}

@@ -1,4 +1,6 @@
 // The answers of the services as numbers, for callers from other languages. What does not apply is 0.
+#![tactic(auto)]
+
 ghost use Rattle.std.specs.Prelude.{◌≡◌};
 ghost use Rattle.answer_numbers.specs.AnswerNumbers.{unnamed, weightless, settled_numbers, no_sample, sample_of, refused_for, converted_numbers, ring_told, ring_numbers, no_place, told, checked_numbers, place_of, restored_for, restored_numbers};
 
@@ -6,7 +8,7 @@ use rules::{Checked, Converted, Place, Refusal, Ringed, Settled, SourcePlace, Ve
 
 // Refusal 0 is success; the nine weights are 0 on a refusal.
 #[repr(C)]
-#[derive(Drop)]
+#[derive(Clone, Copy)]
 pub struct SettledNumbers {
     pub refusal: u32,
     pub weights: Weights,
@@ -14,7 +16,7 @@ pub struct SettledNumbers {
 
 // Refusal 0 is done; refusal 10 gives the sample that is too large.
 #[repr(C)]
-#[derive(Drop)]
+#[derive(Clone, Copy)]
 pub struct ConvertedNumbers {
     pub refusal: u32,
     pub sample: SourcePlace,
@@ -22,7 +24,7 @@ pub struct ConvertedNumbers {
 
 // Refusal 0 means that every frame was written; refusal 10 gives the sample that is too large, of the frame after those written.
 #[repr(C)]
-#[derive(Drop)]
+#[derive(Clone, Copy)]
 pub struct RingNumbers {
     pub written: u32,
     pub refusal: u32,
@@ -31,7 +33,7 @@ pub struct RingNumbers {
 
 // Refusal 0 and wrong 0 is accepted; wrong 1 gives the place; refusal 10 gives the sample that is too large.
 #[repr(C)]
-#[derive(Drop)]
+#[derive(Clone, Copy)]
 pub struct CheckedNumbers {
     pub refusal: u32,
     pub wrong: u32,
@@ -41,7 +43,7 @@ pub struct CheckedNumbers {
 
 // Refusal 0 is done; refusal 13 gives the place of the sample that is not well formed.
 #[repr(C)]
-#[derive(Drop)]
+#[derive(Clone, Copy)]
 pub struct RestoredNumbers {
     pub refusal: u32,
     pub place: Place,

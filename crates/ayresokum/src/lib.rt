@@ -1,4 +1,6 @@
 // The exported functions: numbers in place of enumerations, structs by value, slices as a pointer and a length.
+#![tactic(auto)]
+
 ghost use Rattle.std.specs.Prelude.{◌≡◌};
 ghost use Rattle.numbers.specs.Numbers.{settings_of};
 ghost use Rattle.ayresokum.specs.Calls.{version, SettleCall, ConvertCall, luma_call, chroma_call, RingCall, luma_ring_call, chroma_ring_call, CheckCall, ToRgbCall, rgb_call};

@@ -1,4 +1,6 @@
 // Which pixels a chroma pair is made of: its first column and row, and whether it has a second of each; and the mean of a block.
+#![tactic(auto)]
+
 ghost use Rattle.std.specs.Prelude.{◌≡◌, ◌≤◌, ◌<◌};
 ghost use Rattle.rules.specs.Blocks.{pair_over, chroma_row_over, chroma_width, chroma_height};
 ghost use Rattle.blocks.specs.Tiles.{paired, left_of, wide_at, second_of, top_of, two_at};

@@ -1,4 +1,6 @@
 // The two bytes of each of the first elements of a row, exchanged for big endian.
+#![tactic(auto)]
+
 ghost use Rattle.std.specs.Prelude.{◌≤◌, length};
 ghost use Rattle.rules.specs.declared.YuvEndianness.TheVariants.{BigEndian};
 ghost use Rattle.byte_exchange.specs.Exchanged.{Exchanged};

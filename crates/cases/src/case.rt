@@ -6,7 +6,7 @@ use rules::{Frame, YuvBias};
 
 // Settings and a frame by numbers, whose window is last; the lengths of the buffers; a seed for the samples, 0 for document 01's row;
 // and one sample put at an index.
-#[derive(Drop)]
+#[derive(Clone, Copy)]
 pub struct Case {
     pub depth: u32,
     pub precision: u32,

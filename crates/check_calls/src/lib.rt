@@ -1,4 +1,6 @@
 // The exported function that checks, called on a case: it lends the first elements of each buffer.
+#![tactic(auto)]
+
 ghost use Rattle.std.specs.Prelude.{◌≤◌};
 
 pub mod spot;

@@ -7,7 +7,7 @@ use cases::draw::Room;
 use cases::planes::{get, put};
 
 // A place, and its index in its plane.
-#[derive(Drop)]
+#[derive(Clone, Copy)]
 pub struct Spot {
     pub plane: u32,
     pub row: u32,

@@ -1,5 +1,7 @@
 // What the check of a sample needs that depends only on the settings and on the number of pixels of a block, worked out once for a
 // frame: the ranges, and for each kind of sample a divisor and the tolerance times that divisor.
+#![tactic(auto)]
+
 ghost use Rattle.std.specs.Prelude.{◌≡◌, ◌+◌, ◌≤◌};
 ghost use Rattle.rule_laws.specs.Usable.{Reach};
 ghost use Rattle.tolerance_bounds.specs.Bound.{Scale};
@@ -11,14 +13,14 @@ use yuv_support::ranges;
 use yuv_support::ranges::YuvChromaRange;
 
 // A divisor, and the tolerance times it.
-#[derive(Drop)]
+#[derive(Clone, Copy)]
 pub struct Limit {
     pub under: u64,
     pub bound: u64,
 }
 
 // The limits of Cb or of Cr for a block of one, of two and of four pixels.
-#[derive(Drop)]
+#[derive(Clone, Copy)]
 pub struct BlockLimits {
     pub one: Limit,
     pub two: Limit,
@@ -26,7 +28,7 @@ pub struct BlockLimits {
 }
 
 // The ranges, and the limits of luma, Cb and Cr.
-#[derive(Drop)]
+#[derive(Clone, Copy)]
 pub struct SettingsLimits {
     pub ranges: YuvChromaRange,
     pub luma: Limit,

@@ -1,4 +1,6 @@
 // The walk through chroma, row by row and element by element, left at the first wrong sample.
+#![tactic(auto)]
+
 ghost use Rattle.std.specs.Prelude.{◌≡◌, length};
 ghost use Rattle.rules.specs.Blocks.{chroma_width, chroma_height};
 ghost use Rattle.rule_laws.specs.Usable.{Reach};

@@ -1,4 +1,6 @@
 // Refusal 5: a code outside 0 to m.
+#![tactic(auto)]
+
 ghost use Rattle.std.specs.Prelude.{◌≡◌, ◌≤◌};
 ghost use Rattle.rules.specs.Settle.{colour, code_off, some_code_off};
 

@@ -1,4 +1,6 @@
 // All columns of a row but an odd last one: the words of a row two columns at a time, then a pass that exchanges their bytes for big endian.
+#![tactic(auto)]
+
 ghost use Rattle.std.specs.Prelude.{◌≡◌, true, false, ◌≤◌, length};
 ghost use Rattle.rule_laws.specs.Usable.{Usable};
 ghost use Rattle.blocks.specs.Tiles.{paired};

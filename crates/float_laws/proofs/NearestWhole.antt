@@ -8,7 +8,7 @@ use lib.Dec.{T, is_le, compare_is_eq, ltb, ltb→lt, leb→le, nleb→lt, eqb→
 use lib.IntN.{pos}
 use lib.Pow.{pow_pos, pow_mono}
 use lib.Ieee.{Float, nan, inf, fin, binary64, up, down, size, nearest, units, round, add, sub, neg, sum}
-use lib.Ieee.Digits.{size-lt, size_le}
+use lib.Ieee.Digits.{size-lt, size-le}
 use lib.Ieee.Fits.{down_pos, core, round_is}
 use lib.Ieee.Exact.{HasValue}
 use lib.Ieee.Nearest.{closest, closest_same}
@@ -56,7 +56,7 @@ module _ (a c n : ℕ) (C : 0 < c) (h : Near n a c) where
 
 -- ---- from 2 ^ 52 to 2 ^ 53 the unit is 1
 size_is : (z j : ℕ) → 2 ^ j ≤ z → z < 2 ^ suc j → size z ≡ suc j
-size_is z j lo hi = le_antisymm (size_le z (suc j) hi) (lt_of_not-le (λ (g : size z ≤ j). lt_irrefl z (lt_of_lt_of_le (size-lt z) (le_trans (pow_mono g) lo))))
+size_is z j lo hi = le_antisymm (size-le z (suc j) hi) (lt_of_not-le (λ (g : size z ≤ j). lt_irrefl z (lt_of_lt_of_le (size-lt z) (le_trans (pow_mono g) lo))))
 
 one_unit : (a c : ℕ) → 0 < c → 2 ^ 52 * c ≤ a → a < 2 ^ 53 * c → round binary64 false a c ≡ units binary64 false (closest a c) 1074
 one_unit a c C lo hi =

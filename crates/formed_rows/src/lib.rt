@@ -1,4 +1,6 @@
 // Whether all words of a row are well formed.
+#![tactic(auto)]
+
 ghost use Rattle.std.specs.Prelude.{◌≡◌, ◌&&◌};
 ghost use Rattle.rule_laws.specs.Usable.{Reach};
 ghost use Rattle.formed_rows.specs.Formed.{all_formed};

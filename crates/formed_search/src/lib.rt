@@ -1,4 +1,6 @@
 // Refusal 13: the first sample of a plane that is not well formed, reading row by row.
+#![tactic(auto)]
+
 ghost use Rattle.std.specs.Prelude.{◌≡◌, length, get_or};
 ghost use Rattle.rules.specs.Search.{first_below, failing, first_failing};
 ghost use Rattle.rules.specs.ToRgb.{formed_test};

@@ -1,9 +1,11 @@
 // The test of one sample against its exact fraction, in 64 bits.
+#![tactic(auto)]
+
 pub mod block;
 pub mod value;
 
 // The exact value bias + (plus − minus) / under.
-#[derive(Drop)]
+#[derive(Clone, Copy)]
 pub struct Exact {
     pub bias: u32,
     pub plus: u64,
@@ -12,7 +14,7 @@ pub struct Exact {
 }
 
 // The channel sums of a block.
-#[derive(Drop)]
+#[derive(Clone, Copy)]
 pub struct Sums {
     pub red: u32,
     pub green: u32,

@@ -1,4 +1,6 @@
 // The check of a frame: every visible sample judged by its exact fraction, and the first wrong one named.
+#![tactic(auto)]
+
 ghost use Rattle.std.specs.Prelude.{◌≡◌, ◌+◌, ◌≤◌, length};
 ghost use Rattle.rules.specs.declared.Matrix.TheVariants.{Tabled};
 ghost use Rattle.rules.specs.Matrices.{matrix_of};

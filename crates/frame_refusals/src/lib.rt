@@ -1,4 +1,6 @@
 // Refusals 7, 12 and 8 to 10: the first that applies to a frame and its buffers.
+#![tactic(auto)]
+
 ghost use Rattle.std.specs.Prelude.{◌≡◌, length};
 ghost use Rattle.rules.specs.Refusals.{first, line_of};
 ghost use Rattle.rules.specs.Frames.{place_line, too_large_line, frame_lines};

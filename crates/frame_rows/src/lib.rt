@@ -1,4 +1,6 @@
 // The frame loop: both planes, a chroma row and the luma rows over it at a time.
+#![tactic(auto)]
+
 ghost use Rattle.std.specs.Prelude.{◌≡◌, ◌+◌, ◌<◌, length};
 ghost use Rattle.rules.specs.Blocks.{chroma_height};
 ghost use Rattle.rules.specs.Frames.{shown};

@@ -1,4 +1,6 @@
 // A frame converted, the answer and both planes printed; then the planes checked, as written and spoiled.
+#![tactic(auto)]
+
 ghost use Rattle.std.specs.Prelude.{◌≤◌};
 
 use cases::case::Case;

@@ -1,4 +1,6 @@
 // Stride × rows: how many elements one frame has in the source and in each plane.
+#![tactic(auto)]
+
 ghost use Rattle.std.specs.Prelude.{◌≡◌, ◌≤◌};
 ghost use Rattle.rules.specs.Frames.{source_size, luma_size, chroma_size};
 ghost use Rattle.frames.specs.Tests.{Sized, Windowed, Strided};

@@ -1,5 +1,7 @@
 // How many pairs of a chroma row pass by their gauges, from the first on; a last pair whose block has one column fewer is left out. There
 // is one loop for blocks of one, of two and of four pixels.
+#![tactic(auto)]
+
 ghost use Rattle.std.specs.Prelude.{◌≡◌, true, false, [], ◌∷◌, ◌+◌, ◌*◌, ◌/◌, ◌<◌, ◌≤◌, length};
 ghost use Rattle.rules.specs.Channels.{count};
 ghost use Rattle.rules.specs.Blocks.{chroma_width};
@@ -16,7 +18,7 @@ use rules::{YuvChromaSubsampling, YuvEndianness, YuvNVOrder, YuvSourceChannels};
 use yuv_support::channels::{get_u_position, get_v_position};
 
 // How the samples of a source row and of a chroma row lie, and what Cb and Cr are compared by.
-#[derive(Drop)]
+#[derive(Clone, Copy)]
 pub struct Ruler {
     pub channels: YuvSourceChannels,
     pub endianness: YuvEndianness,

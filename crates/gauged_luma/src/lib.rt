@@ -1,4 +1,6 @@
 // How many samples of a luma row pass by their gauge, from the first on; `pixels` is the source row.
+#![tactic(auto)]
+
 ghost use Rattle.std.specs.Prelude.{◌*◌, ◌≤◌, length};
 ghost use Rattle.rules.specs.Channels.{count};
 ghost use Rattle.gauges.specs.Gauges.{SharesBounded, GaugeBounded};

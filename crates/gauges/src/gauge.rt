@@ -8,7 +8,7 @@ use rules::Named;
 
 // What each channel's sum is multiplied by in the numerator of an exact value: K × range × factor, with Kr, Kg and Kb; and 10000 ×
 // range × factor for the channel that a chroma sample is named after, blue for Cb and red for Cr.
-#[derive(Drop)]
+#[derive(Clone, Copy)]
 pub struct Shares {
     pub red: u64,
     pub green: u64,
@@ -17,7 +17,7 @@ pub struct Shares {
 }
 
 // One kind of sample's divisor, its bias × divisor × factor, and its tolerance × divisor × factor.
-#[derive(Drop)]
+#[derive(Clone, Copy)]
 pub struct Gauge {
     pub under: u64,
     pub start: u64,

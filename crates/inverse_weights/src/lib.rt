@@ -1,4 +1,6 @@
 // Carried over from src/yuv_support.rs: the five weights of the way back to RGB, first in 32-bit floats and then as whole numbers.
+#![tactic(auto)]
+
 ghost use Rattle.std.specs.Prelude.{◌≡◌, ◌≤◌};
 ghost use Rattle.rules.specs.Weights.{pair};
 ghost use Rattle.rules.specs.Inverse.{backward, inverse_integers, inverse_weights_of};

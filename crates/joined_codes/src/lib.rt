@@ -1,4 +1,6 @@
 // Two stored words by one sum of joined weights: the luma of two pixels, or both samples of a chroma pair; the bytes are exchanged later.
+#![tactic(auto)]
+
 ghost use Rattle.std.specs.Prelude.{◌≡◌, ◌*◌, ◌/◌, ◌%◌, ◌≤◌, T, pos, nat_abs, ◌*ℤ◌};
 ghost use Rattle.std.specs.Int.Signed.{non_neg};
 ghost use Rattle.rules.specs.Ranges.{most};
@@ -12,7 +14,7 @@ use joined_weights::{FrameWeights, JoinedWeights};
 use rules::{Pixel, Settings, Weights};
 
 // The words that one sum gives.
-#[derive(Drop)]
+#[derive(Clone, Copy)]
 pub struct TwoWords {
     pub first: u16,
     pub second: u16,

@@ -1,5 +1,7 @@
 // The weights of a frame as its rows use them, worked out beforehand: in the order in which a pixel's samples stand in the source,
 // scaled so that sum / 2^13, its low bits cleared, is the stored word, and joined so that one sum of 64 bits holds two: a + b × 2^32.
+#![tactic(auto)]
+
 ghost use Rattle.std.specs.Prelude.{◌≡◌, ◌+◌, ◌*◌, ◌^◌, ◌≤◌, pos, nat_abs, ◌*ℤ◌};
 ghost use Rattle.rule_laws.specs.Usable.{Reach, Usable};
 ghost use Rattle.joined_weights.specs.JoinedWeights.{join, scale_of, blue_first, in_source_order, scaled_triple, scaled_weights, scaled_start, joined_weights, shared_weights, bits_below, frame_weights, NoWeightAbove, Scalable};
@@ -9,7 +11,7 @@ use samples::{code, word};
 use yuv_support::ranges;
 
 // The weights of two sums at once: where the sums start, and what a pixel's first, second and third sample are multiplied by.
-#[derive(Drop)]
+#[derive(Clone, Copy)]
 pub struct JoinedWeights {
     pub start: i64,
     pub first: i64,
@@ -18,7 +20,7 @@ pub struct JoinedWeights {
 }
 
 // Luma's weights, for two pixels at once; chroma's, for both samples of a pair at once; and the bits of a sum below its two words.
-#[derive(Drop)]
+#[derive(Clone, Copy)]
 pub struct FrameWeights {
     pub luma: JoinedWeights,
     pub chroma: JoinedWeights,

@@ -1,4 +1,6 @@
 // The odd last column of a row, by the plain rule of one sample: all other columns are written two at a time (column_pairs).
+#![tactic(auto)]
+
 ghost use Rattle.std.specs.Prelude.{◌≡◌, ◌*◌, ◌<◌, ◌≤◌, false, length};
 ghost use Rattle.rules.specs.Channels.{count};
 ghost use Rattle.rules.specs.Blocks.{averaged, chroma_width};

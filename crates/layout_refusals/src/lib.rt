@@ -1,5 +1,7 @@
 // Refusals 7, 12, 8, 11 and 9: the size, the window, the strides, the count of frames and the lengths, a function for each. No sum or
 // product can wrap.
+#![tactic(auto)]
+
 ghost use Rattle.std.specs.Prelude.{◌≡◌, ◌≤◌};
 ghost use Rattle.rules.specs.Refusals.{outside};
 ghost use Rattle.rules.specs.Frames.{size_off, window_off, stride_off, length_off};

@@ -1,4 +1,6 @@
 // Refusals 7, 12, 8 and 9: the first that applies to one frame and the lengths of its three buffers.
+#![tactic(auto)]
+
 ghost use Rattle.std.specs.Prelude.{◌≡◌};
 ghost use Rattle.rules.specs.Refusals.{first, line_of};
 ghost use Rattle.rules.specs.Frames.{layout_lines};

@@ -1,4 +1,6 @@
 // Row parts of both planes lent to the row functions, with row parts from the middle of the source.
+#![tactic(auto)]
+
 ghost use Rattle.std.specs.Prelude.{◌+◌, ◌<◌, length};
 ghost use Rattle.rule_laws.specs.Usable.{Usable};
 ghost use Rattle.frames.specs.Tests.{Ready};

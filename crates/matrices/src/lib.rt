@@ -1,4 +1,6 @@
 // Carried over from src/yuv_support.rs: the table of matrices, and the pair of floats that a matrix uses.
+#![tactic(auto)]
+
 ghost use Rattle.std.specs.Prelude.{◌≡◌, ◌≤◌};
 ghost use Rattle.rules.specs.Matrices.{matrix_of};
 ghost use Rattle.rules.specs.Weights.{nearest, pair_of};

@@ -1,4 +1,6 @@
 // The mean of two and of four pixels, channel by channel.
+#![tactic(auto)]
+
 ghost use Rattle.std.specs.Prelude.{◌≡◌, [], ◌∷◌, ◌+◌, ◌/◌};
 ghost use Rattle.rules.specs.Blocks.{averaged};
 

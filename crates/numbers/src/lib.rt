@@ -1,4 +1,6 @@
 // Settings by numbers, as a caller from another language or a line of text has them.
+#![tactic(auto)]
+
 ghost use Rattle.std.specs.Prelude.{◌≡◌};
 ghost use Rattle.numbers.specs.Numbers.{matrix_of, range_of, subsampling_of, order_of, packing_of, endianness_of, channels_of, named, these, settings_of};
 
@@ -9,7 +11,7 @@ use rules::{
 
 // The matrices in the order of document 01's table, 5 for the pair kr, kb; the other enumerations by the Rust's numbers.
 #[repr(C)]
-#[derive(Drop)]
+#[derive(Clone, Copy)]
 pub struct SettingsNumbers {
     pub depth: u32,
     pub precision: u32,
@@ -25,7 +27,7 @@ pub struct SettingsNumbers {
 }
 
 // What the numbers mean: settings, or nothing where one of them names no case.
-#[derive(Drop)]
+#[derive(Clone, Copy)]
 pub enum Meant {
     Nothing,
     These(Settings),

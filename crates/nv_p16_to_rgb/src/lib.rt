@@ -1,4 +1,6 @@
 // Two planes turned back into a frame of RGB samples, or refused with the RGB buffer as it was.
+#![tactic(auto)]
+
 ghost use Rattle.std.specs.Prelude.{◌≡◌, ◌∷◌, length};
 ghost use Rattle.rules.specs.declared.Matrix.TheVariants.{Tabled};
 ghost use Rattle.rules.specs.Matrices.{matrix_of};

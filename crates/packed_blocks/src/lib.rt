@@ -1,6 +1,8 @@
 // Two source rows at 4:2:0: the chroma row with the upper luma row, and the lower luma row by itself; two columns in each turn, before
 // the bytes are exchanged. Pixels are read as if they were Rgb, since the weights stand in source order. The first loop ends by a count of
 // pairs, the second by the row's length: with these tests the compiler makes the shortest loops.
+#![tactic(auto)]
+
 ghost use Rattle.std.specs.Prelude.{◌≡◌, true, ◌≤◌, length};
 ghost use Rattle.rule_laws.specs.Usable.{Usable};
 ghost use Rattle.blocks.specs.Tiles.{paired};

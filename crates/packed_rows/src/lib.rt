@@ -1,6 +1,8 @@
 // One source row: a luma row and a chroma row, two columns in each turn, before the bytes are exchanged.
 // Pixels are read as if they were Rgb, since the weights stand in source order. The loops end by the row's length: with this test the
 // compiler makes the shortest loops.
+#![tactic(auto)]
+
 ghost use Rattle.std.specs.Prelude.{◌≡◌, true, false, length};
 ghost use Rattle.rules.specs.declared.YuvChromaSubsampling.TheVariants.{Yuv444};
 ghost use Rattle.rule_laws.specs.Usable.{Usable};

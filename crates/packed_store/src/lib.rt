@@ -1,4 +1,6 @@
 // Two words stored at neighbouring elements, before their bytes are exchanged.
+#![tactic(auto)]
+
 ghost use Rattle.std.specs.Prelude.{◌≡◌, ◌+◌, ◌≤◌, length, set};
 ghost use Rattle.rules.specs.Ranges.{most};
 ghost use Rattle.rule_laws.specs.Codes.{Low};

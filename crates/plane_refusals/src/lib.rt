@@ -1,4 +1,6 @@
 // Refusals 7, 12, 8, 9 and 13: the first that applies to two planes and the RGB buffer that they are turned back into.
+#![tactic(auto)]
+
 ghost use Rattle.std.specs.Prelude.{◌≡◌, length};
 ghost use Rattle.rules.specs.Refusals.{first, line_of};
 ghost use Rattle.rules.specs.ToRgb.{malformed, malformed_line, plane_lines};

@@ -1,4 +1,6 @@
 // The rows of one turn of the frame loop, each a plane's row without its padding.
+#![tactic(auto)]
+
 ghost use Rattle.std.specs.Prelude.{◌≡◌, true, false, ◌≤◌, length};
 ghost use Rattle.rules.specs.Blocks.{chroma_width};
 ghost use Rattle.rules.specs.Planes.{tabulate};

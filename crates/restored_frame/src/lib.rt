@@ -1,4 +1,6 @@
 // The frame loop of the way back: row parts of both planes, and of the buffer from the window's corner on, lent to the row function.
+#![tactic(auto)]
+
 ghost use Rattle.std.specs.Prelude.{◌≡◌, ◌+◌, ◌*◌, ◌^◌, ◌<◌, length};
 ghost use Rattle.rules.specs.Ranges.{most};
 ghost use Rattle.rules.specs.Channels.{count};

@@ -1,4 +1,6 @@
 // One pixel of the way back: a chroma pair's terms once for all pixels over it, then each pixel by its luma.
+#![tactic(auto)]
+
 ghost use Rattle.std.specs.Prelude.{◌≡◌, ◌+◌, ◌-◌, ◌^◌, ◌≤◌, pos, nat_abs, ◌+ℤ◌, ◌-ℤ◌, ◌*ℤ◌};
 ghost use Rattle.std.specs.Int.Signed.{shr_z};
 ghost use Rattle.rules.specs.ToRgb.{held};
@@ -9,7 +11,7 @@ use restoring_weights::{RestoringWeights, weigh};
 use rules::Pixel;
 
 // What a chroma pair adds to the sums of a pixel's first element, of green and of its third.
-#[derive(Drop)]
+#[derive(Clone, Copy)]
 pub struct ChromaTerms {
     pub first: i64,
     pub green: i64,

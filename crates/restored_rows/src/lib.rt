@@ -1,4 +1,6 @@
 // A row of pixels from a row of luma and the row of chroma over it, two columns at a time.
+#![tactic(auto)]
+
 ghost use Rattle.std.specs.Prelude.{◌≡◌, ◌+◌, ◌*◌, ◌%◌, ◌<◌, ◌≤◌, length, get_or};
 ghost use Rattle.rules.specs.declared.YuvEndianness.TheVariants.{BigEndian, LittleEndian};
 ghost use Rattle.rules.specs.Ranges.{most};

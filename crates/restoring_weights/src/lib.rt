@@ -1,5 +1,7 @@
 // The weights of the way back as rows use them, worked out beforehand: scaled so that a sum over stored words, divided by 2^19, is a channel,
 // and in the order in which a pixel's elements stand in the buffer. What a sum starts from holds the biases and the rounding.
+#![tactic(auto)]
+
 ghost use Rattle.std.specs.Prelude.{◌≡◌, ◌-◌, ◌*◌, ◌^◌, ◌≤◌, pos, nat_abs, ◌*ℤ◌};
 ghost use Rattle.rule_laws.specs.Usable.{Reach};
 ghost use Rattle.inverse_bounds.specs.Bounds.{InverseWithin};
@@ -9,7 +11,7 @@ use rules::{InverseWeights, Settings, YuvNVOrder, YuvSourceChannels};
 use yuv_support::{channels, ranges};
 
 // Cr or Cb: its place in a chroma pair, its weight in red or in blue, and its weight in green.
-#[derive(Drop)]
+#[derive(Clone, Copy)]
 pub struct ChromaSide {
     pub at: usize,
     pub own: i32,
@@ -17,7 +19,7 @@ pub struct ChromaSide {
 }
 
 // The same of a pixel's first or third element, scaled, and what that element's sum starts from.
-#[derive(Drop)]
+#[derive(Clone, Copy)]
 pub struct OuterWeights {
     pub at: usize,
     pub own: i64,
@@ -25,7 +27,7 @@ pub struct OuterWeights {
     pub start: i64,
 }
 
-#[derive(Drop)]
+#[derive(Clone, Copy)]
 pub struct RestoringWeights {
     pub luma: i64,
     pub first: OuterWeights,

@@ -1,5 +1,7 @@
 // The exported function that turns a frame back to RGB, called on a case: it lends the first elements of each buffer, and the RGB buffer is
 // as long as the case's source.
+#![tactic(auto)]
+
 ghost use Rattle.std.specs.Prelude.{◌≤◌};
 
 use answer_numbers::RestoredNumbers;

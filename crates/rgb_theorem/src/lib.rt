@@ -1,1 +1,2 @@
 // The theorems of a frame turned back to RGB.
+#![tactic(auto)]

@@ -1,4 +1,6 @@
 // A frame of RGB samples converted to a luma plane and a chroma plane, or refused with both planes as they were.
+#![tactic(auto)]
+
 ghost use Rattle.std.specs.Prelude.{◌≡◌, length};
 ghost use Rattle.rules.specs.Refusals.{line_of};
 ghost use Rattle.rules.specs.Answers.{converted_answer};

@@ -1,4 +1,6 @@
 // A ring: frames laid end to end in the source and in both planes, converted one after the other up to the first that is refused.
+#![tactic(auto)]
+
 ghost use Rattle.std.specs.Prelude.{◌≡◌, length};
 ghost use Rattle.rules.specs.Answers.{ringed_answer};
 ghost use Rattle.rules.specs.Ring.{in_turn, convert_ring};

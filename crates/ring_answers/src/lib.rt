@@ -1,4 +1,6 @@
 // What ends a ring, and its answer.
+#![tactic(auto)]
+
 ghost use Rattle.std.specs.Prelude.{◌≡◌, ◌≤◌};
 ghost use Rattle.rules.specs.Refusals.{line_of};
 ghost use Rattle.ring_answers.specs.RingAnswers.{refusing, ringed};

@@ -1,4 +1,6 @@
 // One frame of a ring, from its part of the source into its parts of the planes.
+#![tactic(auto)]
+
 ghost use Rattle.std.specs.Prelude.{length};
 ghost use Rattle.settle.specs.Promised.{HandedOut};
 ghost use Rattle.ring_parts.specs.Parts.{Lies, Turns};

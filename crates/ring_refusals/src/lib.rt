@@ -1,4 +1,6 @@
 // Refusals 7, 12, 8, 11 and 9 of frames laid end to end: the first that applies to all of them together.
+#![tactic(auto)]
+
 ghost use Rattle.std.specs.Prelude.{◌≡◌};
 ghost use Rattle.rules.specs.Refusals.{first, line_of};
 ghost use Rattle.rules.specs.Ring.{ring_lines};

@@ -1,4 +1,6 @@
 // One rounding of a float weight by itself, for `make rounding` to time. The library has no such function.
+#![tactic(auto)]
+
 ghost use Rattle.std.specs.Prelude.{◌≡◌};
 ghost use Rattle.rules.specs.Weights.{rounded};
 

@@ -1,5 +1,7 @@
 // A number that no colour sample of four rows exceeds: where it is at most m, so are they all. Four rows are looked at side by side, since
 // they come from memory faster so than one after the other. Alpha is never read.
+#![tactic(auto)]
+
 ghost use Rattle.std.specs.Prelude.{◌+◌, ◌≤◌, length};
 ghost use Rattle.rules.specs.Channels.{count};
 ghost use Rattle.row_bounds.specs.Bounds.{Alike, BoundsThree, Bounds};

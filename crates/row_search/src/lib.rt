@@ -1,4 +1,6 @@
 // The first colour sample of a row that exceeds m.
+#![tactic(auto)]
+
 ghost use Rattle.std.specs.Prelude.{◌≡◌, ◌*◌, ◌<◌, ◌≤◌, leb, length};
 ghost use Rattle.rules.specs.Channels.{count};
 ghost use Rattle.rules.specs.Search.{first_below, failing};

@@ -1,15 +1,17 @@
 // The types that document 01's rules speak of. The enumerations carry the names and numbers of yuvutils-rs.
+#![tactic(auto)]
+
 ghost use Rattle.std.specs.Prelude.{◌≡◌};
 ghost use Rattle.rules.specs.Refusals.{number_of};
 
-#[derive(Drop)]
+#[derive(Clone, Copy)]
 pub enum YuvRange {
     Limited = 0,
     Full = 1,
 }
 
 // One of five names, or a custom pair: kr, then kb.
-#[derive(Drop)]
+#[derive(Clone, Copy)]
 pub enum YuvStandardMatrix {
     Bt601,
     Bt709,
@@ -20,52 +22,52 @@ pub enum YuvStandardMatrix {
 }
 
 // Kr and Kb as 32-bit floats.
-#[derive(Drop)]
+#[derive(Clone, Copy)]
 pub struct YuvBias {
     pub kr: f32,
     pub kb: f32,
 }
 
 // Kr and Kb of a row of the table of matrices, in ten-thousandths.
-#[derive(Drop)]
+#[derive(Clone, Copy)]
 pub struct Named {
     pub kr: u32,
     pub kb: u32,
 }
 
 // What a matrix is given by: a row of the table, or a pair of floats.
-#[derive(Drop)]
+#[derive(Clone, Copy)]
 pub enum Matrix {
     Tabled(Named),
     Own(YuvBias),
 }
 
-#[derive(Drop)]
+#[derive(Clone, Copy)]
 pub enum YuvChromaSubsampling {
     Yuv420 = 0,
     Yuv422 = 1,
     Yuv444 = 2,
 }
 
-#[derive(Drop)]
+#[derive(Clone, Copy)]
 pub enum YuvNVOrder {
     UV = 0,
     VU = 1,
 }
 
-#[derive(Drop)]
+#[derive(Clone, Copy)]
 pub enum YuvBytesPacking {
     MostSignificantBytes = 0,
     LeastSignificantBytes = 1,
 }
 
-#[derive(Drop)]
+#[derive(Clone, Copy)]
 pub enum YuvEndianness {
     BigEndian = 0,
     LittleEndian = 1,
 }
 
-#[derive(Drop)]
+#[derive(Clone, Copy)]
 pub enum YuvSourceChannels {
     Rgb = 0,
     Rgba = 1,
@@ -73,7 +75,7 @@ pub enum YuvSourceChannels {
     Bgr = 3,
 }
 
-#[derive(Drop)]
+#[derive(Clone, Copy)]
 pub struct Settings {
     pub depth: u32,
     pub precision: u32,
@@ -121,7 +123,7 @@ impl Settings {
 // A window on the rows of a source: its size in pixels, the strides of the three buffers in u16 elements, the window's corner in
 // pixels and rows of the source, and how many rows the source has.
 #[repr(C)]
-#[derive(Drop)]
+#[derive(Clone, Copy)]
 pub struct Frame {
     pub width: usize,
     pub height: usize,
@@ -133,7 +135,7 @@ pub struct Frame {
     pub source_rows: usize,
 }
 
-#[derive(Drop)]
+#[derive(Clone, Copy)]
 pub struct Pixel {
     pub red: u16,
     pub green: u16,
@@ -141,7 +143,7 @@ pub struct Pixel {
 }
 
 // What a sample of a plane holds: luma, or one of the two chroma components.
-#[derive(Drop)]
+#[derive(Clone, Copy)]
 pub enum Component {
     Y,
     Cb,
@@ -149,7 +151,7 @@ pub enum Component {
 }
 
 // Three weights, for red, green and blue.
-#[derive(Drop)]
+#[derive(Clone, Copy)]
 pub struct Triple {
     pub red: i32,
     pub green: i32,
@@ -157,7 +159,7 @@ pub struct Triple {
 }
 
 // The nine weights in 32-bit floats.
-#[derive(Drop)]
+#[derive(Clone, Copy)]
 pub struct CbCrForwardTransform {
     pub yr: f32,
     pub yg: f32,
@@ -172,7 +174,7 @@ pub struct CbCrForwardTransform {
 
 // The nine weights times 2^P, as whole numbers.
 #[repr(C)]
-#[derive(Drop)]
+#[derive(Clone, Copy)]
 pub struct Weights {
     pub yr: i32,
     pub yg: i32,
@@ -186,7 +188,7 @@ pub struct Weights {
 }
 
 // The five weights of the way back to RGB in 32-bit floats.
-#[derive(Drop)]
+#[derive(Clone, Copy)]
 pub struct CbCrInverseTransform {
     pub y_coef: f32,
     pub cr_coef: f32,
@@ -196,7 +198,7 @@ pub struct CbCrInverseTransform {
 }
 
 // The five weights times 2^P, as whole numbers.
-#[derive(Drop)]
+#[derive(Clone, Copy)]
 pub struct InverseWeights {
     pub y_coef: i32,
     pub cr_coef: i32,
@@ -206,7 +208,7 @@ pub struct InverseWeights {
 }
 
 // The codes that a pixel is restored from.
-#[derive(Drop)]
+#[derive(Clone, Copy)]
 pub struct Codes {
     pub y: u16,
     pub cb: u16,
@@ -215,7 +217,7 @@ pub struct Codes {
 
 // Where a colour sample of the source stands: rows and pixels count from 0, at the window's corner; channel 0 is red, 1 green and 2 blue.
 #[repr(C)]
-#[derive(Drop)]
+#[derive(Clone, Copy)]
 pub struct SourcePlace {
     pub row: u32,
     pub pixel: u32,
@@ -224,14 +226,14 @@ pub struct SourcePlace {
 
 // Where a sample of a plane stands: plane 0 is luma and 1 chroma; rows and elements count from 0.
 #[repr(C)]
-#[derive(Drop)]
+#[derive(Clone, Copy)]
 pub struct Place {
     pub plane: u32,
     pub row: u32,
     pub element: u32,
 }
 
-#[derive(Drop)]
+#[derive(Clone, Copy)]
 pub enum Refusal {
     Depth,
     Precision,
@@ -272,42 +274,42 @@ impl Refusal {
 }
 
 // What the tests of an input come to: none refuses, or this refusal is given.
-#[derive(Drop)]
+#[derive(Clone, Copy)]
 pub enum Verdict {
     Passes,
     Refuses(Refusal),
 }
 
 // What a search through rows of samples finds: nothing, or the row and the element of the first sample that fails.
-#[derive(Drop)]
+#[derive(Clone, Copy)]
 pub enum Search {
     Nothing,
     At(usize, usize),
 }
 
 // What settle answers.
-#[derive(Drop)]
+#[derive(Clone, Copy)]
 pub enum Settled {
     Weighed(Weights),
     Refused(Refusal),
 }
 
 // What convert answers, and what turning a frame back to RGB does.
-#[derive(Drop)]
+#[derive(Clone, Copy)]
 pub enum Converted {
     Done,
     Refused(Refusal),
 }
 
 // What converting a ring answers: how many of its frames were written, and the refusal that ended it, if one did.
-#[derive(Drop)]
+#[derive(Clone, Copy)]
 pub struct Ringed {
     pub written: u32,
     pub ended: Verdict,
 }
 
 // What check answers.
-#[derive(Drop)]
+#[derive(Clone, Copy)]
 pub enum Checked {
     Accepted,
     Wrong(Place),

@@ -8,7 +8,7 @@ use cases::planes::start;
 use cases::{draw, text};
 
 // Rows of a plane: which plane, the first of them, and how many.
-#[derive(Drop)]
+#[derive(Clone, Copy)]
 struct Rows {
     plane: usize,
     first: usize,

@@ -1,5 +1,7 @@
 // Checks small frames with one or two words changed, frames with rows left over from another, frames written by the former numbers of
 // Bt470_6, and settings and frames that are refused; compare/checks.py works every line out afresh.
+#![tactic(auto)]
+
 ghost use Rattle.std.specs.Prelude.{◌<◌};
 
 use cases::case;

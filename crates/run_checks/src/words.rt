@@ -6,7 +6,7 @@ use cases::draw::Room;
 use cases::{draw, text};
 use check_calls::spot::{Spot, check_word, named, spot_at};
 
-#[derive(Drop)]
+#[derive(Clone, Copy)]
 struct Tally {
     accepted: usize,
     first: usize,

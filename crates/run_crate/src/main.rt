@@ -1,5 +1,7 @@
 // Converts document 01's whole frames and frames of every combination that yuvutils-rs 0.8.3 can be driven with, and prints them as
 // its loops leave them, the one named fault included. The file `stdout` was written by those loops (docs/CRATE.md).
+#![tactic(auto)]
+
 ghost use Rattle.std.specs.Prelude.{◌<◌};
 
 use cases::case;

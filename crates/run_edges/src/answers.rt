@@ -3,7 +3,7 @@ use answer_numbers::CheckedNumbers;
 use cases::text::mixed;
 use rules::Place;
 
-#[derive(Drop)]
+#[derive(Clone, Copy)]
 pub(crate) struct Answers {
     pub accepted: usize,
     pub wrong: usize,

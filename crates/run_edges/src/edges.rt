@@ -8,7 +8,7 @@ use cases::draw::Room;
 use check_calls::spot::{Spot, check_word, get_word, named, put_word};
 
 // The lowest and the highest code, and at how many of the two just beyond them the place is named.
-#[derive(Drop)]
+#[derive(Clone, Copy)]
 pub(crate) struct Accepted {
     pub low: usize,
     pub high: usize,
@@ -86,7 +86,7 @@ fn is_accepted(t: CheckedNumbers) -> bool {
 
 // The last word, up or down from a place's word, that is accepted with all words between; and 1 where the place is named at the word
 // just beyond, 0 where not, or where there is no such word.
-#[derive(Drop)]
+#[derive(Clone, Copy)]
 struct Side {
     word: usize,
     named: usize,
@@ -178,7 +178,7 @@ pub(crate) fn accepted_at(
 }
 
 // The same of two places.
-#[derive(Drop)]
+#[derive(Clone, Copy)]
 pub(crate) struct Two {
     pub first_low: usize,
     pub first_high: usize,

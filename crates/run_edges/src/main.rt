@@ -1,5 +1,7 @@
 // Checks where acceptance ends: the codes accepted at places of frames whose rows are judged at once, whole rows at fault, pixels that are
 // lost from a block, and single blocks with codes at and beyond the tolerance; compare/checks.py works every line out afresh.
+#![tactic(auto)]
+
 ghost use Rattle.std.specs.Prelude.{◌<◌};
 
 use cases::case;

@@ -10,7 +10,7 @@ use cases::{case, draw, text};
 use check_calls::spot::spot_at;
 
 // Settings, the number of pixels, and the sums of their channels.
-#[derive(Drop)]
+#[derive(Clone, Copy)]
 struct Block {
     depth: u32,
     precision: u32,

@@ -100,7 +100,7 @@ fn last_of(n: usize) -> usize
 }
 
 // The last row of a plane, and the last element of its rows.
-#[derive(Drop)]
+#[derive(Clone, Copy)]
 struct End {
     row: usize,
     element: usize,

@@ -1,5 +1,7 @@
 // Calls the exported functions by numbers and prints each answer whole: with numbers that name no case of their enumeration, alone
 // and beside every other refusal, and with settings that settle; compare/exports.py works every line out afresh.
+#![tactic(auto)]
+
 ghost use Rattle.std.specs.Prelude.{◌<◌, ◌≤◌};
 
 use cases::case;

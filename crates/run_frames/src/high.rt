@@ -12,7 +12,7 @@ use rules::SourcePlace;
 
 // How many frames convert and check refuse as 10, how many convert takes and check accepts, and a checksum of the places that convert
 // and check name.
-#[derive(Drop)]
+#[derive(Clone, Copy)]
 struct Tally {
     refused: usize,
     refused_by_check: usize,

@@ -1,5 +1,7 @@
 // Converts frames, checks them, and prints each case with its answers and both planes; compare/frames.py works every line out
 // afresh.
+#![tactic(auto)]
+
 ghost use Rattle.std.specs.Prelude.{◌≤◌, ◌<◌};
 
 use cases::{case, sweeps};

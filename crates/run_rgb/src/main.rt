@@ -1,5 +1,7 @@
 // Turns planes back to RGB and prints each case with its window, what was done to its planes, the answer and the RGB buffer after;
 // compare/rgb.py works every line out afresh.
+#![tactic(auto)]
+
 use cases::case;
 
 mod buffers;

@@ -1,5 +1,7 @@
 // Converts rings, frames laid end to end in one call, and prints each case with its count, the answer and both planes; compare/ring.py works
 // every line out afresh.
+#![tactic(auto)]
+
 ghost use Rattle.std.specs.Prelude.{◌<◌, ◌≤◌};
 
 use cases::case;

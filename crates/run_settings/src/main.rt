@@ -1,4 +1,6 @@
 // Settles all 910 named settings, both sides of the limits of depth and precision, and custom pairs, and prints each answer.
+#![tactic(auto)]
+
 use libc::STDOUT_FILENO;
 use rules::{
     Settings, Settled, Weights, YuvBytesPacking, YuvChromaSubsampling, YuvEndianness, YuvNVOrder,

@@ -1,5 +1,7 @@
 // Converts and checks windows, alone and in rings, and prints each case with its window, the answers and both planes; compare/windows.py
 // works every line out afresh.
+#![tactic(auto)]
+
 mod edges;
 mod elements;
 mod limits;

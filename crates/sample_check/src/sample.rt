@@ -13,7 +13,7 @@ use frames::pixels;
 use rules::{Named, Pixel, Settings, YuvSourceChannels};
 
 // A chroma block of a row: its first column, and whether it has a second column and a second row.
-#[derive(Drop)]
+#[derive(Clone, Copy)]
 pub struct Tile {
     pub left: usize,
     pub wide: bool,

@@ -1,4 +1,6 @@
 // Refusal 10: the first visible colour sample that exceeds m, reading row by row.
+#![tactic(auto)]
+
 ghost use Rattle.std.specs.Prelude.{◌≡◌, ◌<◌, ◌≤◌, length};
 ghost use Rattle.rules.specs.Search.{is_found};
 ghost use Rattle.rules.specs.Frames.{window, too_large};

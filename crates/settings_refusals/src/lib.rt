@@ -1,4 +1,6 @@
 // Refusals 1, 2 and 3, a function for each: the depth, the precision, and a custom pair.
+#![tactic(auto)]
+
 ghost use Rattle.std.specs.Prelude.{◌≡◌};
 ghost use Rattle.rules.specs.Refusals.{outside};
 

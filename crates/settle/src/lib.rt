@@ -1,4 +1,6 @@
 // Settings settled: the nine weights, or the first of refusals 1 to 5.
+#![tactic(auto)]
+
 ghost use Rattle.std.specs.Prelude.{◌≡◌};
 ghost use Rattle.rules.specs.Answers.{settled_answer};
 ghost use Rattle.rules.specs.Settle.{settle};

@@ -1,4 +1,6 @@
 // A code as a stored word, and back.
+#![tactic(auto)]
+
 ghost use Rattle.storage.specs.PackingFactor.{packing_factor};
 ghost use Rattle.std.specs.Prelude.{◌≡◌, ◌^◌, ◌<◌, ◌≤◌};
 ghost use Rattle.rules.specs.Storage.{packed, exchanged, word, unpacked, stored, in_place, well_formed};

@@ -1,4 +1,6 @@
 // The tolerance test of one sample by a bound.
+#![tactic(auto)]
+
 ghost use Rattle.std.specs.Prelude.{◌≡◌, ◌+◌, ◌*◌, ◌^◌, ◌≤◌, nat_le};
 ghost use Rattle.fractions.specs.Exact.{Small};
 ghost use Rattle.tolerance_bounds.specs.Bound.{apart, distance, bound_of, Scale};

@@ -1,4 +1,6 @@
 // What the tests of a frame come to, as the answer of a service that says done and nothing more.
+#![tactic(auto)]
+
 ghost use Rattle.std.specs.Prelude.{◌≡◌, []};
 ghost use Rattle.rules.specs.Refusals.{line_of};
 ghost use Rattle.rules.specs.Answers.{given, answer, converted_answer};

@@ -1,4 +1,6 @@
 // What the walks through luma and through chroma have passed, the row parts that they look at, and the place at which they stop.
+#![tactic(auto)]
+
 ghost use Rattle.std.specs.Prelude.{◌≡◌, ◌≤◌};
 
 use rules::Place;

@@ -1,4 +1,6 @@
 // Refusal 4: a weight too far from its exact fraction.
+#![tactic(auto)]
+
 ghost use Rattle.std.specs.Prelude.{◌≡◌, ◌+◌, ◌≤◌, ◌<◌};
 ghost use Rattle.rules.specs.Weights.{signed};
 ghost use Rattle.rules.specs.Matrices.{matrix_of};
@@ -11,7 +13,7 @@ use samples::code;
 use yuv_support::ranges;
 
 // A fraction's numerator: its size, and whether it is negative.
-#[derive(Drop)]
+#[derive(Clone, Copy)]
 pub struct Numerator {
     pub size: u32,
     pub minus: bool,

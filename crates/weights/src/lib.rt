@@ -1,4 +1,6 @@
 // Carried over from src/yuv_support.rs: the nine weights, first in 32-bit floats and then as whole numbers.
+#![tactic(auto)]
+
 ghost use Rattle.std.specs.Prelude.{◌≡◌, ◌≤◌, false, T, pos};
 ghost use Rattle.std.specs.Float.{binary32};
 ghost use Rattle.std.specs.Float.Ieee.{fits, lt};

@@ -40,10 +40,10 @@ luma-size-requires : tie.Need-luma-size-requires
 luma-size-requires c κs = search rules
 
 mul-if2 : tie.Need-overflow-mul-if2
-mul-if2 c = omega (arith, fits _ _ c.before.before.before.requires.1 c.luma_size_lem.ensures.1)
+mul-if2 c = omega (arith, fits _ _ c.before.before.before.requires.1 c.luma_size.ensures.1)
 
 returns-2 : tie.Need-returns-2
-returns-2 c = sym (or_no _ (exact _ _ c.before.before.before.source-size.ensures.0 c.before.before.if1.false) ∙ or_yes _ (longer _ _ c.before.luma_size_lem.ensures.0 c.if2.true))
+returns-2 c = sym (or_no _ (exact _ _ c.before.before.before.source-size.ensures.0 c.before.before.if1.false) ∙ or_yes _ (longer _ _ c.before.luma_size.ensures.0 c.if2.true))
 
 chroma-size-requires : tie.Need-chroma-size-requires
 chroma-size-requires c κs = search rules
@@ -54,7 +54,7 @@ mul-result c = omega (arith, fits _ _ c.before.before.before.before.before.requi
 returns-3 : tie.Need-returns-3
 returns-3 c =
     same _ _ c.chroma-size.ensures.0
-    ∙ sym (or_no _ (exact _ _ c.before.before.before.before.source-size.ensures.0 c.before.before.before.if1.false) ∙ or_no _ (exact _ _ c.before.before.luma_size_lem.ensures.0 c.before.if2.false))
+    ∙ sym (or_no _ (exact _ _ c.before.before.before.before.source-size.ensures.0 c.before.before.before.if1.false) ∙ or_no _ (exact _ _ c.before.before.luma_size.ensures.0 c.before.if2.false))
 
 pub length-off-spec : {M : Type 1} → statement M
 length-off-spec =

@@ -1,5 +1,5 @@
 -- `numbers::all_named` meets its contract. Assumes nothing.
-use mathlib.Core.Bool.{and_false}
+use mathlib.Core.Bool.{and-false}
 use native.Mathlib.Omega.{arith}
 use borrow.Author.Tests.{le-leb, lt-leb}
 use Rattle.numbers.specs.Numbers.{named}
@@ -12,23 +12,23 @@ returns c = rw (lt-leb c.before.before.args.n.matrix 5 (omega arith))
 
 returns-2 : tie.Need-returns-2
 unfolding named
-returns-2 c = simp (lt-leb _ _ c.if2.true, and_false)
+returns-2 c = simp (lt-leb _ _ c.if2.true, and-false)
 
 returns-3 : tie.Need-returns-3
 unfolding named
-returns-3 c = simp (lt-leb _ _ c.if3.true, and_false)
+returns-3 c = simp (lt-leb _ _ c.if3.true, and-false)
 
 returns-4 : tie.Need-returns-4
 unfolding named
-returns-4 c = simp (lt-leb _ _ c.if4.true, and_false)
+returns-4 c = simp (lt-leb _ _ c.if4.true, and-false)
 
 returns-5 : tie.Need-returns-5
 unfolding named
-returns-5 c = simp (lt-leb _ _ c.if5.true, and_false)
+returns-5 c = simp (lt-leb _ _ c.if5.true, and-false)
 
 returns-6 : tie.Need-returns-6
 unfolding named
-returns-6 c = simp (lt-leb _ _ c.if6.true, and_false)
+returns-6 c = simp (lt-leb _ _ c.if6.true, and-false)
 
 returns-7 : tie.Need-returns-7
 unfolding named

@@ -10,7 +10,7 @@ use Rattle.ring_parts.proofs.convert_part.Tie as tie
 -- frame i lies in each of the three buffers
 record Spots (c : tie.After-chroma-size) : Type 0 where
   source : Within c.before.before.before.before.before.before.args.i c.before.before.source-size.result (length c.before.before.before.before.before.before.args.source.now)
-  luma : Within c.before.before.before.before.before.before.args.i c.before.luma_size_lem.result (length c.before.before.before.before.before.before.args.luma.now)
+  luma : Within c.before.before.before.before.before.before.args.i c.before.luma_size.result (length c.before.before.before.before.before.before.args.luma.now)
   chroma : Within c.before.before.before.before.before.before.args.i c.chroma-size.result (length c.before.before.before.before.before.before.args.chroma.now)
 
 spots : (c : tie.After-chroma-size) → Spots c
@@ -18,7 +18,7 @@ spots c =
     let v = c.before.before.before.before.before.before.args in
     let lies = c.before.before.before.before.before.before.requires.1 in
     let source = c.before.before.source-size.ensures in
-    let luma = c.before.luma_size_lem.ensures in
+    let luma = c.before.luma_size.ensures in
     let chroma = c.chroma-size.ensures in
     record {
       source = within v.i _ source.0 source.1 lies.few lies.source;
@@ -104,7 +104,7 @@ returns c =
     let sizes = c.before.before.before.before.before.before.before.before in
     let e = c.before.before.before.before.convert-settled.ensures in
     turned v.i v.s v.f v.source.now v.luma.now v.chroma.now
-    sizes.before.before.source-size.ensures.0 sizes.before.luma_size_lem.ensures.0 sizes.chroma-size.ensures.0
+    sizes.before.before.source-size.ensures.0 sizes.before.luma_size.ensures.0 sizes.chroma-size.ensures.0
     c.before.before.before.before.convert-settled.result e.0 e.1.0 e.1.1
 
 pub convert-part-spec : {M : Type 1} → statement M
