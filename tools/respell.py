@@ -85,8 +85,8 @@ def rewritten(text, new):
 def rust(text, new):
     """Of a source file only its clauses and imports of definitions: lower camel case stands nowhere else in it."""
     camel = {k: v for k, v in new.items() if "-" not in k and not k.islower()}
-    text = re.sub(r"\b[a-z][a-z0-9]*(?:[A-Z][A-Za-z0-9]*)+\b", lambda m: camel.get(m.group(0), m.group(0)), text)
-    return re.sub(r"^ghost use .*$", lambda m: rewritten(m.group(0), new), text, flags=re.M)
+    turn = lambda line: re.sub(r"\b[a-z][a-z0-9]*(?:[A-Z][A-Za-z0-9]*)+\b", lambda m: camel.get(m.group(0), m.group(0)), line)
+    return "\n".join(rewritten(line, new) if line.startswith("ghost use ") else turn(line) for line in text.split("\n"))
 
 
 def page(text, new):

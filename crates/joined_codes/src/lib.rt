@@ -7,7 +7,7 @@ ghost use Rattle.rules.specs.Ranges.{most};
 ghost use Rattle.rule_laws.specs.Codes.{Low};
 ghost use Rattle.rule_laws.specs.Usable.{Usable};
 ghost use Rattle.joined_weights.specs.JoinedWeights.{frame_weights};
-ghost use Rattle.joined_codes.specs.Sums.{joined_samples, joined_sum, cleared, first_word, second_word_lem, SumFits};
+ghost use Rattle.joined_codes.specs.Sums.{joined_samples, joined_sum, cleared, first_word, second_word, SumFits};
 ghost use Rattle.joined_codes.specs.Packed.{colours_of, packed_luma, packed_chroma};
 
 use joined_weights::{FrameWeights, JoinedWeights};

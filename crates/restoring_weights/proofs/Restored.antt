@@ -1,6 +1,6 @@
 -- A sum over stored words, divided by 2^19, is the channel that the rule gives for the codes. Assumes nothing.
 use mathlib.Core.Path.{◌≡◌, refl, sym, ap, ◌∙◌, subst, subst⁻¹}
-use Prim.Native.Nat.{ℕ, suc, ◌+◌, ◌-◌, ◌*◌, ◌/◌, ◌%◌, ◌^◌, ◌≤◌, ◌<◌}
+use Prim.Native.Nat.{ℕ, suc, ◌+◌, ◌-◌, ◌*◌, ◌/◌, ◌%◌, ◌^◌, ◌≤◌, ◌<◌, zero}
 use native.Mathlib.Nat.{mul_assoc, mul-le-mul, mul-div-mul_right, div-eq_of_lt-le, div-add-mod', mod-lt, le_refl}
 use native.Mathlib.Omega.{arith}
 use lib.Pow.{pow-add, pow_pos, shl-shr}
@@ -49,6 +49,7 @@ units s r = ap (λ (n : ℕ). 2 ^ s.precision * n) (unit s r) ∙ whole s.precis
 -- ---- division, rounded down
 
 negative : (m : ℕ) → 0 < m → neg_ℤ (pos m) ≡ negsuc (m - 1)
+negative zero h = elim h [ ]
 negative (suc m) h = ap negsuc (omega arith)
 
 -- (a + 1) q − 1, divided
