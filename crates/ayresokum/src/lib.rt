@@ -1,4 +1,4 @@
-// The exported functions: numbers in place of enumerations, structs by value, slices as a pointer and a length.
+// The services as callers from other languages have them: numbers in place of enumerations, structs by value, slices. `ayresokum_c` exports them.
 #![tactic(auto)]
 
 ghost use Rattle.std.specs.Prelude.{◌≡◌};
@@ -12,15 +12,13 @@ use numbers::{Meant, SettingsNumbers};
 use rules::Frame;
 
 // The number of this interface, for a caller to compare with the one that it was written for.
-#[unsafe(no_mangle)]
-pub extern "C" fn ayresokum_version() -> u32
+pub fn ayresokum_version() -> u32
     ensures { result ≡ version }
 {
     2
 }
 
-#[unsafe(no_mangle)]
-pub extern "C" fn ayresokum_settle(settings: SettingsNumbers) -> SettledNumbers
+pub fn ayresokum_settle(settings: SettingsNumbers) -> SettledNumbers
     ensures { SettleCall (settings_of settings) result }
 {
     let meant = numbers::settings_of(settings);
@@ -30,8 +28,7 @@ pub extern "C" fn ayresokum_settle(settings: SettingsNumbers) -> SettledNumbers
     }
 }
 
-#[unsafe(no_mangle)]
-pub extern "C" fn ayresokum_convert(
+pub fn ayresokum_convert(
     settings: SettingsNumbers,
     frame: Frame,
     source: &[u16],
@@ -51,8 +48,7 @@ pub extern "C" fn ayresokum_convert(
     }
 }
 
-#[unsafe(no_mangle)]
-pub extern "C" fn ayresokum_convert_ring(
+pub fn ayresokum_convert_ring(
     settings: SettingsNumbers,
     frame: Frame,
     count: usize,
@@ -73,8 +69,7 @@ pub extern "C" fn ayresokum_convert_ring(
     }
 }
 
-#[unsafe(no_mangle)]
-pub extern "C" fn ayresokum_check(
+pub fn ayresokum_check(
     settings: SettingsNumbers,
     frame: Frame,
     source: &[u16],
@@ -92,8 +87,7 @@ pub extern "C" fn ayresokum_check(
     }
 }
 
-#[unsafe(no_mangle)]
-pub extern "C" fn ayresokum_to_rgb(
+pub fn ayresokum_to_rgb(
     settings: SettingsNumbers,
     frame: Frame,
     luma: &[u16],

@@ -4,16 +4,17 @@ ghost use Rattle.std.specs.Prelude.{◌≡◌, ◌≤◌, ◌<◌, length};
 use crate::case::Case;
 use crate::draw::{Room, within_room};
 use answer_numbers::{CheckedNumbers, ConvertedNumbers, RestoredNumbers, RingNumbers};
-use libc::STDOUT_FILENO;
 use rules::SourcePlace;
 
+const STANDARD_OUTPUT: i32 = 1;
+
 fn put(text: &[u8]) {
-    io::write_all(STDOUT_FILENO, text);
+    io::write_all(STANDARD_OUTPUT, text);
 }
 
 fn put_number(n: usize) {
     put(b" ");
-    io::print_decimal(STDOUT_FILENO, n as u64);
+    io::print_decimal(STANDARD_OUTPUT, n as u64);
 }
 
 // A name and numbers.

@@ -4,17 +4,18 @@ use answer_numbers::{CheckedNumbers, ConvertedNumbers, SettledNumbers};
 use cases::case::Case;
 use cases::draw::Room;
 use cases::{draw, text};
-use libc::STDOUT_FILENO;
 use rules::{Place, SourcePlace};
 use weight_nearness::sizes;
 
+const STANDARD_OUTPUT: i32 = 1;
+
 fn put(text: &[u8]) {
-    io::write_all(STDOUT_FILENO, text);
+    io::write_all(STANDARD_OUTPUT, text);
 }
 
 fn put_number(n: u32) {
     put(b" ");
-    io::print_decimal(STDOUT_FILENO, n as u64);
+    io::print_decimal(STANDARD_OUTPUT, n as u64);
 }
 
 fn put_weight(w: i32) {
@@ -22,7 +23,7 @@ fn put_weight(w: i32) {
     if w < 0 {
         put(b"-");
     }
-    io::print_decimal(STDOUT_FILENO, sizes::size_of_weight(w));
+    io::print_decimal(STANDARD_OUTPUT, sizes::size_of_weight(w));
 }
 
 fn put_settled(t: SettledNumbers) {

@@ -1,7 +1,6 @@
 // Settles all 910 named settings, both sides of the limits of depth and precision, and custom pairs, and prints each answer.
 #![tactic(auto)]
 
-use libc::STDOUT_FILENO;
 use rules::{
     Settings, Settled, Weights, YuvBytesPacking, YuvChromaSubsampling, YuvEndianness, YuvNVOrder,
     YuvRange, YuvSourceChannels, YuvStandardMatrix,
@@ -10,12 +9,14 @@ use weight_nearness::sizes;
 
 mod pairs;
 
+const STANDARD_OUTPUT: i32 = 1;
+
 fn put(text: &[u8]) {
-    io::write_all(STDOUT_FILENO, text);
+    io::write_all(STANDARD_OUTPUT, text);
 }
 
 fn put_number(n: u32) {
-    io::print_decimal(STDOUT_FILENO, n as u64);
+    io::print_decimal(STANDARD_OUTPUT, n as u64);
 }
 
 fn put_weight(w: i32) {
@@ -23,7 +24,7 @@ fn put_weight(w: i32) {
     if w < 0 {
         put(b"-");
     }
-    io::print_decimal(STDOUT_FILENO, sizes::size_of_weight(w));
+    io::print_decimal(STANDARD_OUTPUT, sizes::size_of_weight(w));
 }
 
 fn put_weights(w: Weights) {
@@ -160,9 +161,9 @@ fn float_of(bits: u32) -> f32 {
 
 fn put_pair(kr: u32, kb: u32) {
     put(b"Custom ");
-    io::print_hex(STDOUT_FILENO, kr as u64, 8);
+    io::print_hex(STANDARD_OUTPUT, kr as u64, 8);
     put(b" ");
-    io::print_hex(STDOUT_FILENO, kb as u64, 8);
+    io::print_hex(STANDARD_OUTPUT, kb as u64, 8);
 }
 
 // A custom pair, given by the bits of its two floats.

@@ -10,8 +10,8 @@ pub all_near-requires : goal.all_near-requires
 all_near-requires c =
     let a = c.args in
     let pre = c.requires in
-    let q = sane a.s.depth a.s.range pre.0.0 pre.0.1 in
-    let k = tabled_sum a.s.matrix _ (sym pre.1 ∙ c.in-Tabled.is) in
+    let q = sane a.s.depth a.s.range pre.le_depth.0 pre.le_depth.1 in
+    let k = tabled_sum a.s.matrix _ (sym pre.matrix_value ∙ c.in-Tabled.is) in
     let y = ap (λ (r : YuvChromaRange). r.range_y) c.get_yuv_range-g.ensures in
     let u = ap (λ (r : YuvChromaRange). r.range_uv) c.get_yuv_range-g.ensures in
-    (pre.0.2, k, omega (arith, c.most-m.ensures, q.m_lt), omega (arith, y, q.y_le, q.m_lt), omega (arith, u, q.uv_le, q.m_lt))
+    (pre.le_depth.2, k, omega (arith, c.most-m.ensures, q.m_lt), omega (arith, y, q.y_le, q.m_lt), omega (arith, u, q.uv_le, q.m_lt))

@@ -1,9 +1,14 @@
 -- `sample_check::sample::chroma_right` meets its contract.
 use mathlib.Core.Path.{◌∙◌}
 use Rattle.frames.specs.Rows.{row_pixel}
-use Rattle.check_limits.proofs.Limits.{own_fits}
+use Rattle.check_limits.proofs.Limits.{own_fits, chroma_modest}
 use Rattle.sample_check.proofs.Samples.{chroma_judged}
 use Rattle.sample_check.proofs.sample.chroma_right.Goals as goal
+
+pub exact_chroma-x-requires-clause-modest : goal.exact_chroma-x-requires-clause-modest
+exact_chroma-x-requires-clause-modest c =
+    let a = c.args in
+    chroma_modest c.requires.limits_of c.requires.reach (own_fits c.requires.limits_of a.u a.t.wide a.t.two c.own_limit-limit.ensures).0
 
 pub right_by-requires-clause-small : goal.right_by-requires-clause-small
 right_by-requires-clause-small c =
@@ -17,5 +22,3 @@ returns c =
     c.right_by.ensures
     ∙ chroma_judged a.s a.k a.limits c.requires.limits_of a.v a.u a.t.wide a.t.two (row_pixel ch a.top.now) (row_pixel ch a.low.now) a.t.left
     c.exact_chroma-x.result c.own_limit-limit.ensures c.sums-b.ensures.0 c.exact_chroma-x.ensures.value
-
--- NO OLD ANSWER: exact_chroma-x-requires-clause-modest
