@@ -28,7 +28,7 @@ export CARGO_TARGET_X86_64_UNKNOWN_LINUX_GNU_LINKER = $(CC)
 export CARGO_TARGET_X86_64_UNKNOWN_LINUX_GNU_RUNNER = $(RUN)
 endif
 STRICT = -Wall -Wextra -pedantic -Werror
-RULES = $(shell find crates -name '*.rt' -o -name '*.antt') crates.txt
+RULES = $(shell find crates -name out -prune -o '(' -name '*.rt' -o -name '*.antt' ')' -print) crates.txt
 SHARED := libayresokum.so.$(shell awk '/define AYRESOKUM_VERSION/ { print $$3 }' include/ayresokum.h)
 
 .PHONY: x86-64 cargo-variables lib demo examples outputs output-settings output-frames output-checks output-ring output-windows output-rgb output-exports calls rust test rounding FORCE clean
@@ -44,8 +44,8 @@ lib: build/libayresokum.a build/libayresokum.so
 
 build/libayresokum.a: $(RULES)
 	mkdir -p build
-	rt staticlib ayresokum > build/staticlib.log 2>&1 || (cat build/staticlib.log; false)
-	cp target/staticlib/libayresokum.a $@
+	(cd crates/ayresokum_c && rt lib) > build/library.log 2>&1 || (cat build/library.log; false)
+	cp crates/ayresokum_c/out/libayresokum_c.a $@
 
 build/$(SHARED): build/libayresokum.a
 	$(CC) -shared -o $@ -Wl,--whole-archive $< -Wl,--no-whole-archive -Wl,-soname,$(SHARED)
@@ -104,14 +104,14 @@ test: rust examples outputs calls
 # The time of one rounding by itself: a library of its own, made from this repository and from BEFORE.
 build/rounding/now.a: $(RULES)
 	mkdir -p $(@D)
-	rt staticlib round_weight > build/rounding/now.log 2>&1 || (cat build/rounding/now.log; false)
-	cp target/staticlib/libround_weight.a $@
+	(cd crates/round_weight && rt lib) > build/rounding/now.log 2>&1 || (cat build/rounding/now.log; false)
+	cp crates/round_weight/out/libround_weight.a $@
 
 # BEFORE may name another folder than the last time, so this one is always made anew; its proofs are kept.
 build/rounding/before.a: FORCE
 	mkdir -p $(@D)
 	bench/rounding/build.sh $(BEFORE) > build/rounding/before.log 2>&1 || (cat build/rounding/before.log; false)
-	cp target/rounding/target/staticlib/libround_weight.a $@
+	cp target/rounding/crates/round_weight/out/libround_weight.a $@
 
 build/rounding/%.so: build/rounding/%.a
 	$(CC) -shared -o $@ -Wl,--whole-archive $< -Wl,--no-whole-archive

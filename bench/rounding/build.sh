@@ -1,6 +1,6 @@
 #!/usr/bin/env bash
 # bench/rounding/build.sh REPOSITORY: proves weights::round_weight as another commit has it, with this commit's crate round_weight over it, in
-# target/rounding, and leaves libround_weight.a in target/rounding/target/staticlib.
+# target/rounding, and leaves libround_weight.a in target/rounding/crates/round_weight/out. The other commit has to be one that this kit proves.
 set -eu
 if [ $# -ne 1 ]; then
     sed -n '2,3s/^# //p' "$0" >&2
@@ -12,8 +12,8 @@ work=target/rounding
 mkdir -p "$work"
 rm -rf "$work/crates"
 cp -r "$other/crates" "$work/crates"
-rm -rf "$work/crates/round_weight"
+rm -rf "$work/crates/round_weight" "$work"/crates/*/out
 cp -r crates/round_weight "$work/crates/round_weight"
 { grep -v '^round_weight:' "$other/crates.txt"; grep '^round_weight:' crates.txt; } >"$work/crates.txt"
-cd "$work"
-rt staticlib round_weight
+cd "$work/crates/round_weight"
+rt lib

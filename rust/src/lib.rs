@@ -209,8 +209,8 @@
 //!
 //! # Building
 //!
-//! `rt staticlib ayresokum` writes the proved library to the repository's target/staticlib, where the build looks for it. The
-//! variable `AYRESOKUM_LIB` names another folder, from the root or from this crate's folder.
+//! `make lib` writes the proved library to the repository's build, where this crate's build looks for it. The variable
+//! `AYRESOKUM_LIB` names another folder, from the root or from this crate's folder.
 //!
 //! The library's interface has a number. With a library of another number than this crate was written for every call panics and
 //! names both; a library from before there were numbers cannot be linked, since it has no `ayresokum_version`. A function that

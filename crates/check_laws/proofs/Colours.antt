@@ -16,10 +16,10 @@ use Rattle.rules.specs.Channels.{Picture, is_u}
 use Rattle.rules.specs.Matrices.{matrix_of}
 use Rattle.rules.specs.Blocks.{chroma_width, chroma_height}
 use Rattle.rules.specs.Refusals.{Line, first}
-use Rattle.rules.specs.Search.{first_failing, first_place}
-use Rattle.rules.specs.Answers.{given, answer, checked_answer}
+use Rattle.rules.specs.Search.{first_failing}
+use Rattle.rules.specs.Answers.{answer, checked_answer}
 use Rattle.rules.specs.Settle.{settle_lines}
-use Rattle.rules.specs.Check.{right, luma_test, chroma_test, custom_line, judged, judged_by, check}
+use Rattle.rules.specs.Check.{right, luma_test, chroma_test, custom_line, first_place, judged, judged_by, check}
 use Rattle.rule_laws.proofs.Answers.{one_checked}
 use Rattle.plane_laws.proofs.Searches.{same_search}
 use Rattle.frames.specs.Sources.{SameColours, SamePicture}
@@ -42,7 +42,7 @@ module _ (s : Settings) (f : Frame) (px px' : Picture) (h : SamePicture f.width 
       (same_block f px px' h s.subsampling row e b l))
 
   pub same_judged : (m : Matrix) → judged_by m s f px luma chroma ≡ judged_by m s f px' luma chroma
-  same_judged (Tabled k) = λ i. given (first_place (same_luma k i) (same_chroma k i))
+  same_judged (Tabled k) = λ i. first_place (same_luma k i) (same_chroma k i)
   same_judged (Own p) = refl
 
 -- THE THEOREM: sources that differ only in alpha, in padding and outside the window get the same answer

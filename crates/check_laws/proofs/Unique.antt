@@ -19,17 +19,17 @@ use Rattle.rules.specs.declared.Search.TheVariants.{Nothing, At}
 use Rattle.rules.specs.Matrices.{matrix_of}
 use Rattle.rules.specs.Blocks.{chroma_width, chroma_height}
 use Rattle.rules.specs.Refusals.{place_values, Line, passes, refuses, first}
-use Rattle.rules.specs.Search.{Clean, FirstWrong, first_failing, first_place}
+use Rattle.rules.specs.Search.{Clean, FirstWrong, first_failing}
 use Rattle.rules.specs.Answers.{Answer, given, refused, answer, checked_answer}
 use Rattle.rules.specs.Settle.{settle_lines}
 use Rattle.rules.specs.Frames.{shown}
-use Rattle.rules.specs.Check.{luma_test, chroma_test, is_custom, check_lines, judged, judged_by, judgement, check}
+use Rattle.rules.specs.Check.{luma_test, chroma_test, is_custom, check_lines, first_place, judged, judged_by, judgement, check}
 use Rattle.rule_laws.proofs.Refusals.{parted, passed_by}
 use Rattle.rule_laws.proofs.Answers.{one_checked}
 use Rattle.plane_laws.proofs.Searches.{clean_none, none_clean, first_found, found_wrong}
 use Rattle.check_laws.proofs.Joined.{by_row, luma_wrong, chroma_wrong, both_right}
 
--- ---- the places that two searches come to
+-- ---- the answers that two searches come to
 
 -- a value of an answer
 value_in : ℕ → Answer → ℕ
@@ -41,29 +41,29 @@ how_many (given v) = length v
 how_many (refused n v) = 0
 
 module _ (y c : Search) where
-  nothing_named : given (first_place y c) ≡ given [] → (y ≡ Nothing) × (c ≡ Nothing)
+  nothing_named : first_place y c ≡ given [] → (y ≡ Nothing) × (c ≡ Nothing)
   unfolding how_many
   nothing_named e = go y c (ap how_many e)
     where
-      go : (y c : Search) → how_many (given (first_place y c)) ≡ 0 → (y ≡ Nothing) × (c ≡ Nothing)
+      go : (y c : Search) → how_many (first_place y c) ≡ 0 → (y ≡ Nothing) × (c ≡ Nothing)
       go Nothing Nothing e = (refl, refl)
       go Nothing (At r x) e = absurd (omega arith)
       go (At r x) c e = absurd (omega arith)
 
-  luma_named : (row element : ℕ) → given (first_place y c) ≡ given (place_values 0 row element) → y ≡ At row element
+  luma_named : (row element : ℕ) → first_place y c ≡ given (place_values 0 row element) → y ≡ At row element
   unfolding how_many value_in
   luma_named row element e = go y c (ap how_many e) (ap (value_in 0) e) (ap (value_in 1) e) (ap (value_in 2) e)
     where
-      go : (y c : Search) → let a = given (first_place y c) in how_many a ≡ 3 → value_in 0 a ≡ 0 → value_in 1 a ≡ row → value_in 2 a ≡ element → y ≡ At row element
+      go : (y c : Search) → how_many (first_place y c) ≡ 3 → value_in 0 (first_place y c) ≡ 0 → value_in 1 (first_place y c) ≡ row → value_in 2 (first_place y c) ≡ element → y ≡ At row element
       go Nothing Nothing n p r x = absurd (omega arith)
       go Nothing (At a b) n p r x = absurd (omega arith)
       go (At a b) c n p r x = λ i. At (r i) (x i)
 
-  chroma_named : (row element : ℕ) → given (first_place y c) ≡ given (place_values 1 row element) → (y ≡ Nothing) × (c ≡ At row element)
+  chroma_named : (row element : ℕ) → first_place y c ≡ given (place_values 1 row element) → (y ≡ Nothing) × (c ≡ At row element)
   unfolding how_many value_in
   chroma_named row element e = go y c (ap how_many e) (ap (value_in 0) e) (ap (value_in 1) e) (ap (value_in 2) e)
     where
-      go : (y c : Search) → let a = given (first_place y c) in how_many a ≡ 3 → value_in 0 a ≡ 1 → value_in 1 a ≡ row → value_in 2 a ≡ element → (y ≡ Nothing) × (c ≡ At row element)
+      go : (y c : Search) → how_many (first_place y c) ≡ 3 → value_in 0 (first_place y c) ≡ 1 → value_in 1 (first_place y c) ≡ row → value_in 2 (first_place y c) ≡ element → (y ≡ Nothing) × (c ≡ At row element)
       go Nothing Nothing n p r x = absurd (omega arith)
       go Nothing (At a b) n p r x = (refl, λ i. At (r i) (x i))
       go (At a b) c n p r x = absurd (omega arith)
@@ -97,7 +97,7 @@ module _ (s : Settings) (f : Frame) (source luma chroma : List ℕ) where
     pub accepted_iff : (check s f source luma chroma ≡ given []) ↔ (CleanLuma × CleanChroma)
     accepted_iff = (
       λ a. let b = nothing_named in_luma in_chroma (sym where_passed ∙ a) in (none_clean _ _ _ b.0, none_clean _ _ _ b.1),
-      λ b. where_passed ∙ sym (ap given (both_right (clean_none _ _ _ b.0) (clean_none _ _ _ b.1))),
+      λ b. where_passed ∙ sym (both_right (clean_none _ _ _ b.0) (clean_none _ _ _ b.1)),
     )
 
     -- a sample of luma is named exactly when it is the first wrong one
@@ -105,7 +105,7 @@ module _ (s : Settings) (f : Frame) (source luma chroma : List ℕ) where
         ↔ FirstWrong (luma_test s k f (shown s f source) luma) f.width f.height row element
     luma_wrong_iff row element = (
       λ a. found_wrong _ _ _ _ _ (luma_named in_luma in_chroma row element (sym where_passed ∙ a)),
-      λ w. where_passed ∙ sym (ap given (luma_wrong in_chroma (first_found _ _ _ _ _ w))),
+      λ w. where_passed ∙ sym (luma_wrong in_chroma (first_found _ _ _ _ _ w)),
     )
 
     -- a sample of chroma is named exactly when luma is clean and it is chroma's first wrong one
@@ -113,21 +113,21 @@ module _ (s : Settings) (f : Frame) (source luma chroma : List ℕ) where
         ↔ (CleanLuma × FirstWrong (chroma_test s k f (shown s f source) chroma) (chroma_width s.subsampling f.width) (chroma_height s.subsampling f.height) row element)
     chroma_wrong_iff row element = (
       λ a. let b = chroma_named in_luma in_chroma row element (sym where_passed ∙ a) in (none_clean _ _ _ b.0, found_wrong _ _ _ _ _ b.1),
-      λ w. where_passed ∙ sym (ap given (chroma_wrong (clean_none _ _ _ w.0) (first_found _ _ _ _ _ w.1))),
+      λ w. where_passed ∙ sym (chroma_wrong (clean_none _ _ _ w.0) (first_found _ _ _ _ _ w.1)),
     )
 
   -- ---- and a refusal is given exactly when it is the first that applies
 
   -- by a row of the table of matrices nothing is refused
-  unrefused : (u v : List ℤ) (n : ℕ) → given u ≡ refused n v → ⊥
-  unrefused u v n e = let z : ◌≡◌ {A = ℕ} 0 1 = cc in omega arith
+  unrefused : (y c : Search) (n : ℕ) (v : List ℤ) → first_place y c ≡ refused n v → ⊥
+  unrefused Nothing Nothing n v e = let z : ◌≡◌ {A = ℕ} 0 1 = cc in omega arith
+  unrefused Nothing (At a b) n v e = let z : ◌≡◌ {A = ℕ} 0 1 = cc in omega arith
+  unrefused (At a b) c n v e = let z : ◌≡◌ {A = ℕ} 0 1 = cc in omega arith
 
   unrefusing : (n : ℕ) (v : List ℤ) (m : Matrix) → is_custom m ≡ false → judged_by m s f (shown s f source) luma chroma ≡ refused n v → ⊥
   unrefusing n v (Tabled k) c a =
-      unrefused
-      (first_place (first_failing (luma_test s k f (shown s f source) luma) f.width f.height)
-      (first_failing (chroma_test s k f (shown s f source) chroma) (chroma_width s.subsampling f.width) (chroma_height s.subsampling f.height)))
-      v n a
+      unrefused (first_failing (luma_test s k f (shown s f source) luma) f.width f.height)
+      (first_failing (chroma_test s k f (shown s f source) chroma) (chroma_width s.subsampling f.width) (chroma_height s.subsampling f.height)) n v a
   unrefusing n v (Own p) c a = true≢false c
 
   due : (n : ℕ) (v : List ℤ) (l : Line) → first (check_lines s f source luma chroma) ≡ l → answer l (judgement s f source luma chroma) ≡ refused n v → l ≡ refuses n v

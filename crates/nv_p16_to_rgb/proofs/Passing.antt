@@ -10,7 +10,7 @@ use Rattle.rules.specs.declared.Frame.{Frame}
 use Rattle.rules.specs.declared.Search.{Search}
 use Rattle.rules.specs.declared.Search.TheVariants.{Nothing, At}
 use Rattle.rules.specs.Refusals.{passes, first}
-use Rattle.rules.specs.Search.{first_place}
+use Rattle.rules.specs.Search.{first_values}
 use Rattle.rules.specs.ToRgb.{malformed_line, plane_lines}
 use Rattle.rule_laws.proofs.Refusals.{passed, passed_by}
 use Rattle.plane_laws.proofs.Searches.{none_clean}
@@ -25,7 +25,7 @@ unplaced [] h = refl
 unplaced (v ∷ vs) h = absurd (let z : ◌≡◌ {A = ℕ} 0 1 = cc in omega arith)
 
 -- and no place means that neither search found one
-neither_found : (y c : Search) → first_place y c ≡ [] → (y ≡ Nothing) × (c ≡ Nothing)
+neither_found : (y c : Search) → first_values y c ≡ [] → (y ≡ Nothing) × (c ≡ Nothing)
 neither_found Nothing Nothing h = (refl, refl)
 neither_found Nothing (At row e) h = absurd (let z : ◌≡◌ {A = ℕ} 0 1 = cc in omega arith)
 neither_found (At row e) c h = absurd (let z : ◌≡◌ {A = ℕ} 0 1 = cc in omega arith)

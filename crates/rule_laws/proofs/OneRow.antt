@@ -20,13 +20,13 @@ use Rattle.rules.specs.Blocks.{chroma_width, chroma_height}
 use Rattle.rules.specs.PlaneSamples.{chroma_sample}
 use Rattle.rules.specs.Planes.{element_at, written}
 use Rattle.rules.specs.Refusals.{first}
-use Rattle.rules.specs.Answers.{given, answer}
-use Rattle.rules.specs.Search.{first_failing, first_place}
+use Rattle.rules.specs.Answers.{answer}
+use Rattle.rules.specs.Search.{first_failing}
 use Rattle.rules.specs.Settle.{settle, settle_lines, some_code_off}
 use Rattle.rules.specs.Frames.{source_size, luma_size, chroma_size, shown}
 use Rattle.rules.specs.Convert.{convert, verdict, kept, word_of, sample_word, luma_after, chroma_after}
 use Rattle.rules.specs.Ring.{ring_lines, unless, one_then, in_turn, convert_ring}
-use Rattle.rules.specs.Check.{right, luma_test, check_lines, judged_by, check}
+use Rattle.rules.specs.Check.{right, luma_test, first_place, check_lines, judged_by, check}
 use Rattle.rules.specs.Inverse.{inverse_weights_of}
 use Rattle.rules.specs.ToRgb.{restored, to_rgb, rgb_after}
 
@@ -84,13 +84,12 @@ module _ (s : Settings) where
       same_judgement : (m : Matrix) → judged_by m (by Bt470_6 s) f (shown s f source) luma chroma ≡ judged_by m (by Bt601 s) f (shown s f source) luma chroma
       same_judgement (Own p) = refl
       same_judgement (Tabled k) = λ i.
-          given
-          (first_place
+          first_place
           (first_failing (luma_test (by Bt601 s) k f (shown s f source) luma) f.width f.height)
           (first_failing
           (λ (row element : ℕ). let x = chroma_sample s f.width f.height (shown s f source) row element in same_test k x.component x.pixels (element_at f.chroma_stride chroma row element) i)
           (chroma_width s.subsampling f.width)
-          (chroma_height s.subsampling f.height)))
+          (chroma_height s.subsampling f.height))
 
       pub checks : check (by Bt470_6 s) f source luma chroma ≡ check (by Bt601 s) f source luma chroma
       unfolding check weights_of some_code_off

@@ -1,5 +1,5 @@
 -- Document 01, "Exact fractions and the tolerance" and refusal 6: which visible samples are wrong, and what check answers. Definitions only.
-use Rattle.std.specs.Prelude.{ℕ, Bool, true, false, ◌&&◌, List, [], ◌∷◌, ◌++◌, length}
+use Rattle.std.specs.Prelude.{ℕ, ◌+◌, ◌*◌, Bool, true, false, ◌&&◌, List, [], ◌∷◌, ◌++◌, length, get_or}
 use Rattle.rules.specs.declared.Settings.{Settings}
 use Rattle.rules.specs.declared.Frame.{Frame}
 use Rattle.rules.specs.declared.Pixel.{Pixel}
@@ -8,16 +8,17 @@ use Rattle.rules.specs.declared.Matrix.{Matrix}
 use Rattle.rules.specs.declared.Matrix.TheVariants.{Tabled, Own}
 use Rattle.rules.specs.declared.Component.{Component}
 use Rattle.rules.specs.declared.Component.TheVariants.{Y, Cb, Cr}
+use Rattle.rules.specs.declared.Search.{Search}
+use Rattle.rules.specs.declared.Search.TheVariants.{Nothing, At}
 use Rattle.rules.specs.Ranges.{most, y_range, uv_range}
 use Rattle.rules.specs.Channels.{Picture}
 use Rattle.rules.specs.Matrices.{matrix_of}
 use Rattle.rules.specs.Blocks.{chroma_width, chroma_height}
 use Rattle.rules.specs.PlaneSamples.{Sample, sample_at, bias_of}
-use Rattle.rules.specs.Planes.{element_at}
 use Rattle.rules.specs.Storage.{well_formed, stored}
 use Rattle.rules.specs.Fractions.{Fraction, exact_luma, exact_cb, exact_cr, halves, within}
-use Rattle.rules.specs.Search.{Test, first_failing, first_place}
-use Rattle.rules.specs.Refusals.{Line, line, first}
+use Rattle.rules.specs.Search.{Test, first_failing}
+use Rattle.rules.specs.Refusals.{place_values, Line, line, first}
 use Rattle.rules.specs.Answers.{Answer, given, refused, answer}
 use Rattle.rules.specs.Settle.{settle_lines}
 use Rattle.rules.specs.Frames.{shown, frame_lines}
@@ -40,7 +41,7 @@ right s k x v =
 
 -- whether the word at a row and an element of a plane is right, by the plane's number and stride
 abbrev pub plane_test : Settings → Named → Frame → Picture → ℕ → ℕ → List ℕ → Test
-plane_test s k f px plane stride words row element = right s k (sample_at s f px plane row element) (element_at stride words row element)
+plane_test s k f px plane stride words row element = right s k (sample_at s f px plane row element) (get_or words (row * stride + element) 0)
 
 abbrev pub luma_test : Settings → Named → Frame → Picture → List ℕ → Test
 luma_test s k f px luma = plane_test s k f px 0 f.luma_stride luma
@@ -62,12 +63,17 @@ custom_line s = line 6 (is_custom (matrix_of s.matrix))
 abbrev pub check_lines : Settings → Frame → List ℕ → List ℕ → List ℕ → List Line
 check_lines s f source luma chroma = settle_lines s ++ (custom_line s ∷ frame_lines s f source (length luma) (length chroma))
 
+-- the first wrong sample of luma, or else of chroma, or that there is none
+abbrev pub first_place : Search → Search → Answer
+first_place (At row element) c = given (place_values 0 row element)
+first_place Nothing (At row element) = given (place_values 1 row element)
+first_place Nothing Nothing = given []
+
 -- "The check goes through luma row by row, then chroma element by element, and leaves the walk at the first wrong sample"
 abbrev pub judged : Settings → Named → Frame → Picture → List ℕ → List ℕ → Answer
 judged s k f px luma chroma =
-    given
-    (first_place (first_failing (luma_test s k f px luma) f.width f.height)
-    (first_failing (chroma_test s k f px chroma) (chroma_width s.subsampling f.width) (chroma_height s.subsampling f.height)))
+    first_place (first_failing (luma_test s k f px luma) f.width f.height)
+    (first_failing (chroma_test s k f px chroma) (chroma_width s.subsampling f.width) (chroma_height s.subsampling f.height))
 
 -- the planes are judged by a row of the table of matrices; a custom matrix has none, and 6 refuses it
 abbrev pub judged_by : Matrix → Settings → Frame → Picture → List ℕ → List ℕ → Answer

@@ -1,5 +1,5 @@
 -- Document 01, refusals 7 to 10, and document 02, Four: what is asked of a frame and its buffers, and what is seen of a source. Definitions only.
-use Rattle.std.specs.Prelude.{ℕ, zero, suc, ◌+◌, ◌*◌, ◌/◌, ◌%◌, Bool, not, ◌||◌, List, [], ◌∷◌, ◌++◌, leb, ltb, eqb, length}
+use Rattle.std.specs.Prelude.{ℕ, zero, suc, ◌+◌, ◌*◌, ◌/◌, ◌%◌, Bool, not, ◌||◌, List, [], ◌∷◌, leb, ltb, eqb, length}
 use Rattle.rules.specs.declared.Settings.{Settings}
 use Rattle.rules.specs.declared.Frame.{Frame}
 use Rattle.rules.specs.declared.Pixel.{Pixel}
@@ -97,9 +97,10 @@ too_large_line s f source = place_line (too_large (most s.depth) f (shown s f so
 abbrev pub layout_lines : Settings → Frame → ℕ → ℕ → ℕ → List Line
 layout_lines s f source luma chroma = size_line f ∷ window_line f ∷ stride_line s f ∷ length_line s f 1 source luma chroma ∷ []
 
--- what convert and check ask of a frame
+-- what convert and check ask of a frame, in order: these, and then that no sample is too large
 abbrev pub frame_lines : Settings → Frame → List ℕ → ℕ → ℕ → List Line
-frame_lines s f source luma chroma = layout_lines s f (length source) luma chroma ++ (too_large_line s f source ∷ [])
+frame_lines s f source luma chroma =
+    size_line f ∷ window_line f ∷ stride_line s f ∷ length_line s f 1 (length source) luma chroma ∷ too_large_line s f source ∷ []
 
 -- what these lines come to, for a source and two planes
 abbrev pub frame_line : Settings → Frame → List ℕ → List ℕ → List ℕ → Line

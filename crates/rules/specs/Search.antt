@@ -33,10 +33,10 @@ is_found Nothing = false
 is_found (At row element) = true
 
 -- the values of the place that a search through luma and one through chroma come to, or none: luma is plane 0 and comes first, chroma is plane 1
-abbrev pub first_place : Search → Search → List ℤ
-first_place (At row element) c = place_values 0 row element
-first_place Nothing (At row element) = place_values 1 row element
-first_place Nothing Nothing = []
+abbrev pub first_values : Search → Search → List ℤ
+first_values (At row element) c = place_values 0 row element
+first_values Nothing (At row element) = place_values 1 row element
+first_values Nothing Nothing = []
 
 -- ---- what that means
 

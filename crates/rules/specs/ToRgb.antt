@@ -15,7 +15,7 @@ use Rattle.rules.specs.PlaneSamples.{bias_of}
 use Rattle.rules.specs.Planes.{element_at, written}
 use Rattle.rules.specs.Storage.{well_formed, stored}
 use Rattle.rules.specs.Inverse.{inverse_weights_of}
-use Rattle.rules.specs.Search.{Test, first_failing, first_place}
+use Rattle.rules.specs.Search.{Test, first_failing, first_values}
 use Rattle.rules.specs.Refusals.{Line, passes, refuses, first}
 use Rattle.rules.specs.Answers.{Answer, given, answer}
 use Rattle.rules.specs.Settle.{settle_lines}
@@ -115,7 +115,7 @@ formed_test s stride words row element = well_formed s.packing s.endianness s.de
 -- the place of the first sample that is not well formed, in luma or else in chroma
 abbrev pub malformed : Settings → Frame → List ℕ → List ℕ → List ℤ
 malformed s f luma chroma =
-    first_place (first_failing (formed_test s f.luma_stride luma) f.width f.height)
+    first_values (first_failing (formed_test s f.luma_stride luma) f.width f.height)
     (first_failing (formed_test s f.chroma_stride chroma) (chroma_width s.subsampling f.width) (chroma_height s.subsampling f.height))
 
 abbrev pub malformed_line : List ℤ → Line

@@ -14,6 +14,6 @@ returns-clause-chroma_after c =
     let v = c.args in
     let h = c.process_halved_row.ensures in
     let t = row_pixel v.s.channels v.upper.now in
-    let u = row_pixel v.s.channels v.lower.now in h.1
+    let u = row_pixel v.s.channels v.lower.now in h.chroma_after
     ∙ tabulate_ext (chroma_width v.s.subsampling v.width) _ _ (element_ext v.s v.w v.width false t t t u (λ x l. refl) (λ g. absurd (true≢false (sym g))))
     ∙ (λ i. tabulate (chroma_width v.s.subsampling v.width) (chroma_words v.s v.w v.width (sym c.if-two.false i) v.upper.now v.lower.now))

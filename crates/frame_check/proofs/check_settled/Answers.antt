@@ -1,0 +1,18 @@
+-- `frame_check::check_settled` meets its contract.
+use mathlib.Core.Path.{sym, ◌∙◌}
+use native.Mathlib.Omega.{arith}
+use Rattle.plane_laws.proofs.Searches.{found_wrong}
+use Rattle.blocks.proofs.Tiles.{width_small, height_small}
+use Rattle.frame_check.proofs.check_settled.Goals as goal
+
+pub place_of-requires : goal.place_of-requires
+place_of-requires c =
+    let w = found_wrong _ _ _ _ _ (sym c.walk_luma-in_luma.ensures ∙ c.in-At.is) in
+    let z = c.requires.ready.sized in
+    (omega (arith, w.below, z.flat), omega (arith, w.inside, z.narrow))
+
+pub place_of-requires-in-At-in_chroma : goal.place_of-requires-in-At-in_chroma
+place_of-requires-in-At-in_chroma c =
+    let w = found_wrong _ _ _ _ _ (sym c.walk_chroma-in_chroma.ensures ∙ c.in-At-in_chroma.is) in
+    let z = c.requires.ready.sized in
+    (omega (arith, w.below, height_small c.args.s.subsampling c.args.f.height, z.flat), omega (arith, w.inside, width_small c.args.s.subsampling c.args.f.width, z.narrow))
