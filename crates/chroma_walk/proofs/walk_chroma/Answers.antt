@@ -23,11 +23,11 @@ in_rows : (c : Else-row-rows) → let a = c.args in c.walk.row < chroma_height a
 in_rows c = omega (arith, c.walk.invariant.0, c.if-row-rows.false, c.chroma_height-rows.ensures)
 
 -- this turn's rows of the source, and of the plane
-topRow : After-samples-1 → List ℕ
-topRow c = c.source_row-top.result.now
+top_row : After-samples-1 → List ℕ
+top_row c = c.source_row-top.result.now
 
-lowRow : After-samples-1 → List ℕ
-lowRow c = c.source_row-low.result.now
+low_row : After-samples-1 → List ℕ
+low_row c = c.source_row-low.result.now
 
 chroma_row : After-samples-1 → List ℕ
 chroma_row c =
@@ -37,16 +37,16 @@ chroma_row c =
 -- what a test of an element of the row parts says, of the buffers
 tested : (c : After-samples-1) (e : ℕ) {r : Bool} → let a = c.args in
     e < c.chroma_width-wide.result →
-    r ≡ element_right a.s a.k a.f.width c.two-two.result (row_pixel a.s.channels (topRow c)) (row_pixel a.s.channels (lowRow c)) e (get_or (chroma_row c) e 0) →
+    r ≡ element_right a.s a.k a.f.width c.two-two.result (row_pixel a.s.channels (top_row c)) (row_pixel a.s.channels (low_row c)) e (get_or (chroma_row c) e 0) →
     r ≡ chroma_test a.s a.k a.f (shown a.s a.f a.source.now) a.chroma.now c.walk.row e
-unfolding topRow lowRow chroma_row
+unfolding top_row low_row chroma_row
 tested c e h q =
     let a = c.args in
-    chroma_shown a.s a.k a.f a.source.now a.chroma.now c.walk.row e c.top-t.result c.second.result c.two-two.result (topRow c) (lowRow c)
+    chroma_shown a.s a.k a.f a.source.now a.chroma.now c.walk.row e c.top-t.result c.second.result c.two-two.result (top_row c) (low_row c)
     c.top-t.ensures c.two-two.ensures c.second.ensures c.source_row-top.ensures c.source_row-low.ensures c.chroma_width-wide.result c.chroma_width-wide.ensures h q
 
 pub loop-element-init : goal.loop-element-init
-unfolding topRow lowRow chroma_row
+unfolding top_row low_row chroma_row
 loop-element-init c =
     let p = c.chroma_passed-passed.ensures in
     (p.most, record { clean = λ e h. sym (tested (goal.at.loop-element-init c).After-samples-1 e (subst (λ (n : ℕ). e < n) (sym c.chroma_width-wide.ensures) (lt_of_lt_of_le h p.most)) (sym (p.right e h))) })
@@ -54,7 +54,7 @@ loop-element-init c =
 -- and what this element's says
 judged : (c : After-chroma_at) → let a = c.args in
     c.chroma_at.result ≡ chroma_test a.s a.k a.f (shown a.s a.f a.source.now) a.chroma.now c.walk.row c.loop-element.element
-unfolding topRow lowRow chroma_row
+unfolding top_row low_row chroma_row
 judged c = tested (goal.at.After-chroma_at c).After-samples-1 c.loop-element.element c.loop-element-test.true c.chroma_at.ensures
 
 pub loop-element-preserved : goal.loop-element-preserved

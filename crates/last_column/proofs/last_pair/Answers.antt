@@ -40,8 +40,8 @@ spot c =
       before_it = e;
     }
 
-low-mean : (c : After-column_mean-p) → Low (most c.args.s.depth) c.column_mean-p.result
-low-mean c =
+low_mean : (c : After-column_mean-p) → Low (most c.args.s.depth) c.column_mean-p.result
+low_mean c =
     let v = c.args in
     let upper = c.requires.convertible.0.low in
     let lower = c.requires.convertible.1.low in
@@ -52,11 +52,11 @@ low-mean c =
 
 pub chroma_word-requires-clause-low : goal.chroma_word-requires-clause-low
 chroma_word-requires-clause-low c =
-    low-mean (goal.at.chroma_word-requires-clause-low c).After-column_mean-p
+    low_mean (goal.at.chroma_word-requires-clause-low c).After-column_mean-p
 
 pub chroma_word-requires-2-clause-low : goal.chroma_word-requires-2-clause-low
 chroma_word-requires-2-clause-low c =
-    low-mean (goal.at.chroma_word-requires-2-clause-low c).After-column_mean-p
+    low_mean (goal.at.chroma_word-requires-2-clause-low c).After-column_mean-p
 
 pub returns : goal.returns
 returns c =

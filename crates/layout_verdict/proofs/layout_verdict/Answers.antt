@@ -29,17 +29,17 @@ size_in c = size (goal.at.Else-size_off c).After-size_off false c.if-size_off.fa
 corner_in : (c : Else-window_off) → window_off c.args.f ≡ false
 corner_in c = corner (goal.at.Else-window_off c).After-window_off false c.if-window_off.false
 
-stride-in : (c : Else-stride_off) → stride_off c.args.s c.args.f ≡ false
-stride-in c = stride (goal.at.Else-stride_off c).After-stride_off false c.if-stride_off.false
+stride_in : (c : Else-stride_off) → stride_off c.args.s c.args.f ≡ false
+stride_in c = stride (goal.at.Else-stride_off c).After-stride_off false c.if-stride_off.false
 
-size-left : (c : Else-size_off) → Sized c.args.f
-size-left c = sized c.args.f (size_in c)
+size_left : (c : Else-size_off) → Sized c.args.f
+size_left c = sized c.args.f (size_in c)
 
-corner-left : (c : Else-window_off) → Windowed c.args.f
-corner-left c = windowed c.args.f (corner_in c)
+corner_left : (c : Else-window_off) → Windowed c.args.f
+corner_left c = windowed c.args.f (corner_in c)
 
-stride-left : (c : Else-stride_off) → Strided c.args.s c.args.f
-stride-left c = strided c.args.s c.args.f (stride-in c)
+stride_left : (c : Else-stride_off) → Strided c.args.s c.args.f
+stride_left c = strided c.args.s c.args.f (stride_in c)
 
 pub returns-then-size_off-clause-exact : goal.returns-then-size_off-clause-exact
 returns-then-size_off-clause-exact c =
@@ -55,25 +55,25 @@ returns-then-stride_off-clause-exact c =
 
 pub length_off-requires-clause-sized : goal.length_off-requires-clause-sized
 length_off-requires-clause-sized c =
-    (size-left (goal.at.length_off-requires-clause-sized c).Else-size_off, (corner-left (goal.at.length_off-requires-clause-sized c).Else-window_off, stride-left (goal.at.length_off-requires-clause-sized c).Else-stride_off))
+    (size_left (goal.at.length_off-requires-clause-sized c).Else-size_off, (corner_left (goal.at.length_off-requires-clause-sized c).Else-window_off, stride_left (goal.at.length_off-requires-clause-sized c).Else-stride_off))
 
 pub returns-then-length_off-clause-exact : goal.returns-then-length_off-clause-exact
 returns-then-length_off-clause-exact c =
     sym (skipped _ _ _ (size_in (goal.at.returns-then-length_off-clause-exact c).Else-size_off)
     ∙ skipped _ _ _ (corner_in (goal.at.returns-then-length_off-clause-exact c).Else-window_off)
-    ∙ skipped _ _ _ (stride-in (goal.at.returns-then-length_off-clause-exact c).Else-stride_off)
+    ∙ skipped _ _ _ (stride_in (goal.at.returns-then-length_off-clause-exact c).Else-stride_off)
     ∙ stopped _ _ _ (long (goal.at.returns-then-length_off-clause-exact c).After-length_off _ c.if-length_off.true))
 
 pub returns-clause-laid : goal.returns-clause-laid
 returns-clause-laid c =
     let v = c.args in
-    let l = long (goal.at.returns-clause-laid c).After-length_off false c.if-length_off.false in (size-left (goal.at.returns-clause-laid c).Else-size_off, laid v.s v.f v.source v.luma v.chroma (size-left (goal.at.returns-clause-laid c).Else-size_off) (corner-left (goal.at.returns-clause-laid c).Else-window_off) (stride-left (goal.at.returns-clause-laid c).Else-stride_off) l)
+    let l = long (goal.at.returns-clause-laid c).After-length_off false c.if-length_off.false in (size_left (goal.at.returns-clause-laid c).Else-size_off, laid v.s v.f v.source v.luma v.chroma (size_left (goal.at.returns-clause-laid c).Else-size_off) (corner_left (goal.at.returns-clause-laid c).Else-window_off) (stride_left (goal.at.returns-clause-laid c).Else-stride_off) l)
 
 pub returns-clause-exact : goal.returns-clause-exact
 returns-clause-exact c =
     let v = c.args in
     let l = long (goal.at.returns-clause-exact c).After-length_off false c.if-length_off.false in sym (skipped _ _ _ (size_in (goal.at.returns-clause-exact c).Else-size_off)
     ∙ skipped _ _ _ (corner_in (goal.at.returns-clause-exact c).Else-window_off)
-    ∙ skipped _ _ _ (stride-in (goal.at.returns-clause-exact c).Else-stride_off)
+    ∙ skipped _ _ _ (stride_in (goal.at.returns-clause-exact c).Else-stride_off)
     ∙ skipped _ _ _ l
     ∙ end)

@@ -20,11 +20,11 @@ luma c =
     let l = c.requires.ready.laid.luma.fits c.args.top (top_in c.requires.turn) in
     record { inside = l; bytes = omega arith }
 
-chroma-bytes : (c : After-slice_known-2-1) → length c.args.chroma.now * 2 ≤ 18446744073709551615
-chroma-bytes c = omega arith
+chroma_bytes : (c : After-slice_known-2-1) → length c.args.chroma.now * 2 ≤ 18446744073709551615
+chroma_bytes c = omega arith
 
-second-in : (c : After-second) → c.second.result < c.args.f.height
-second-in c = second_below c.args.two c.args.top c.args.f.height c.second.ensures (top_in c.requires.turn) (next_in c.requires.turn)
+second_in : (c : After-second) → c.second.result < c.args.f.height
+second_in c = second_below c.args.two c.args.top c.args.f.height c.second.ensures (top_in c.requires.turn) (next_in c.requires.turn)
 
 -- and so does the chroma row
 record Chroma (c : After-chroma_width) : Type 0 where
@@ -34,13 +34,13 @@ record Chroma (c : After-chroma_width) : Type 0 where
 chroma : (c : After-chroma_width) → Chroma c
 chroma c =
     let l = chroma_in c.requires.ready c.requires.turn c.chroma_width.ensures in
-    record { inside = l; bytes = omega (arith, l, chroma-bytes (goal.at.After-chroma_width c).After-slice_known-2-1) }
+    record { inside = l; bytes = omega (arith, l, chroma_bytes (goal.at.After-chroma_width c).After-slice_known-2-1) }
 
 pub process_row-requires-clause-convertible : goal.process_row-requires-clause-convertible
 process_row-requires-clause-convertible c =
     let v = c.args in
     let ready = c.requires.ready in
-    let turn = c.requires.turn in (convertible ready (top_in turn) c.source_row-upper.ensures, convertible ready (second-in (goal.at.process_row-requires-clause-convertible c).After-second) c.source_row-lower.ensures)
+    let turn = c.requires.turn in (convertible ready (top_in turn) c.source_row-upper.ensures, convertible ready (second_in (goal.at.process_row-requires-clause-convertible c).After-second) c.source_row-lower.ensures)
 
 pub returns-clause-luma_grows : goal.returns-clause-luma_grows
 returns-clause-luma_grows c =

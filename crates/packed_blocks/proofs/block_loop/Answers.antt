@@ -25,19 +25,19 @@ read c = pixels c.args.s c.requires.convertible.0 c.get_channels_count-n.ensures
 read_lower : (c : After-pixel_at-v) → TwoPixels c.args.s c.args.lower.now (2 * c.loop-pair.pair) c.pixel_at-u.result c.pixel_at-v.result
 read_lower c = pixels c.args.s c.requires.convertible.1 c.get_channels_count-n.ensures (2 * c.loop-pair.pair) (2 * c.loop-pair.pair * c.get_channels_count-n.result) refl (spot (goal.at.After-pixel_at-v c).In-loop-pair) c.pixel_at-u.ensures c.pixel_at-v.ensures
 
-low-mean : (c : After-mean_of_four) → Low (most c.args.s.depth) c.mean_of_four.result
-low-mean c =
+low_mean : (c : After-mean_of_four) → Low (most c.args.s.depth) c.mean_of_four.result
+low_mean c =
     let g = read (goal.at.After-mean_of_four c).After-pixel_at-q in
     let h = read_lower (goal.at.After-mean_of_four c).After-pixel_at-v in
     subst⁻¹ (Low (most c.args.s.depth)) c.mean_of_four.ensures (averaged_low (four g.first_low_lem g.second_low_lem h.first_low_lem h.second_low_lem))
 
-chroma-room : (c : In-loop-pair) → 2 * c.loop-pair.pair + 2 ≤ length c.args.chroma.now
-chroma-room c =
+chroma_room : (c : In-loop-pair) → 2 * c.loop-pair.pair + 2 ≤ length c.args.chroma.now
+chroma_room c =
     omega (arith, (spot c).inside, c.requires.row_lengths.chroma_long, wide_enough c.args.s.subsampling c.args.width)
 
 pub put_pair-requires-clause-low : goal.put_pair-requires-clause-low
 put_pair-requires-clause-low c =
-    low-mean (goal.at.put_pair-requires-clause-low c).After-mean_of_four
+    low_mean (goal.at.put_pair-requires-clause-low c).After-mean_of_four
 
 pub loop-pair-preserved : goal.loop-pair-preserved
 loop-pair-preserved c =
@@ -56,6 +56,6 @@ loop-pair-preserved c =
       omega (arith, c.loop-pair-test.true),
       (
         begun_at next (luma_turn v.s v.w v.luma.now _ g room i.1.0 c.put_luma.ensures),
-        begun_at next (pair_turn v.s v.w _ v.width true t u x (x / 2) v.chroma.now _ even refl (chroma-room (goal.at.loop-pair-preserved c).In-loop-pair) mean i.1.1 c.put_pair.ensures),
+        begun_at next (pair_turn v.s v.w _ v.width true t u x (x / 2) v.chroma.now _ even refl (chroma_room (goal.at.loop-pair-preserved c).In-loop-pair) mean i.1.1 c.put_pair.ensures),
       ),
     )

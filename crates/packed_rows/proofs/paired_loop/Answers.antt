@@ -21,13 +21,13 @@ spot c = columns c.args.s c.requires.convertible c.get_channels_count-n.ensures 
 read : (c : After-pixel_at-q) → TwoPixels c.args.s c.args.rgba.now c.loop-i.x c.pixel_at-p.result c.pixel_at-q.result
 read c = pixels c.args.s c.requires.convertible c.get_channels_count-n.ensures c.loop-i.x c.loop-i.i c.loop-i.invariant.0.0 (spot (goal.at.After-pixel_at-q c).In-loop-i) c.pixel_at-p.ensures c.pixel_at-q.ensures
 
-low-mean : (c : After-mean_of_two) → Low (most c.args.s.depth) c.mean_of_two.result
-low-mean c =
+low_mean : (c : After-mean_of_two) → Low (most c.args.s.depth) c.mean_of_two.result
+low_mean c =
     let g = read (goal.at.After-mean_of_two c).After-pixel_at-q in
     subst⁻¹ (Low (most c.args.s.depth)) c.mean_of_two.ensures (averaged_low (two g.first_low_lem g.second_low_lem))
 
-chroma-room : (c : In-loop-i) → c.loop-i.x + 2 ≤ length c.args.chroma.now
-chroma-room c =
+chroma_room : (c : In-loop-i) → c.loop-i.x + 2 ≤ length c.args.chroma.now
+chroma_room c =
     omega (arith, (spot c).inside, c.requires.row_lengths.chroma_long, wide_enough c.args.s.subsampling c.args.width)
 
 pub put_luma-requires-clause-low : goal.put_luma-requires-clause-low
@@ -37,7 +37,7 @@ put_luma-requires-clause-low c =
 
 pub put_pair-requires-clause-low : goal.put_pair-requires-clause-low
 put_pair-requires-clause-low c =
-    low-mean (goal.at.put_pair-requires-clause-low c).After-mean_of_two
+    low_mean (goal.at.put_pair-requires-clause-low c).After-mean_of_two
 
 pub loop-i-preserved : goal.loop-i-preserved
 loop-i-preserved c =
@@ -52,7 +52,7 @@ loop-i-preserved c =
       (omega (arith, i.0.0), omega (arith, c.loop-i-test.true), omega (arith, i.0.2)),
       (
         luma_turn v.s v.w v.luma.now _ g room i.1.0 c.put_luma.ensures,
-        pair_turn v.s v.w _ v.width false t t x (x / 2) v.chroma.now _ i.0.2 refl (chroma-room (goal.at.loop-i-preserved c).In-loop-i) mean i.1.1 c.put_pair.ensures,
+        pair_turn v.s v.w _ v.width false t t x (x / 2) v.chroma.now _ i.0.2 refl (chroma_room (goal.at.loop-i-preserved c).In-loop-i) mean i.1.1 c.put_pair.ensures,
       ),
     )
 

@@ -20,8 +20,8 @@ spot c = columns c.args.s c.requires.convertible c.get_channels_count-n.ensures 
 read : (c : After-pixel_at-q) → TwoPixels c.args.s c.args.rgba.now c.loop-i.x c.pixel_at-p.result c.pixel_at-q.result
 read c = pixels c.args.s c.requires.convertible c.get_channels_count-n.ensures c.loop-i.x c.loop-i.i c.loop-i.invariant.0.0 (spot (goal.at.After-pixel_at-q c).In-loop-i) c.pixel_at-p.ensures c.pixel_at-q.ensures
 
-chroma-room : (c : In-loop-i) → 2 * c.loop-i.x + 4 ≤ length c.args.chroma.now
-chroma-room c =
+chroma_room : (c : In-loop-i) → 2 * c.loop-i.x + 4 ≤ length c.args.chroma.now
+chroma_room c =
     omega (arith, (spot c).inside, c.requires.row_lengths.chroma_long, ap (λ (o : YuvChromaSubsampling). chroma_width o c.args.width) c.requires.usable.1)
 
 pub put_luma-requires-clause-low : goal.put_luma-requires-clause-low
@@ -42,8 +42,8 @@ loop-i-preserved c =
     let place = spot (goal.at.loop-i-preserved c).In-loop-i in
     let g = read (goal.at.loop-i-preserved c).After-pixel_at-q in
     let room : x + 2 ≤ length v.luma.now = omega (arith, place.inside, c.requires.row_lengths.luma_long) in
-    let j = pair_turn v.s v.w _ v.width false t t (2 * x) x v.chroma.now _ (omega arith) (omega arith) (omega (arith, chroma-room (goal.at.loop-i-preserved c).In-loop-i)) (g.first_is ∙ single v.s v.width t x c.requires.usable.1) i.1.1 c.put_pair.ensures in
-    let k = pair_turn v.s v.w _ v.width false t t (2 * x + 2) (x + 1) v.chroma.now _ (omega arith) (omega arith) (omega (arith, chroma-room (goal.at.loop-i-preserved c).In-loop-i)) (g.second_is ∙ single v.s v.width t (x + 1) c.requires.usable.1) j c.put_pair-in-loop-i.ensures in (
+    let j = pair_turn v.s v.w _ v.width false t t (2 * x) x v.chroma.now _ (omega arith) (omega arith) (omega (arith, chroma_room (goal.at.loop-i-preserved c).In-loop-i)) (g.first_is ∙ single v.s v.width t x c.requires.usable.1) i.1.1 c.put_pair.ensures in
+    let k = pair_turn v.s v.w _ v.width false t t (2 * x + 2) (x + 1) v.chroma.now _ (omega arith) (omega arith) (omega (arith, chroma_room (goal.at.loop-i-preserved c).In-loop-i)) (g.second_is ∙ single v.s v.width t (x + 1) c.requires.usable.1) j c.put_pair-in-loop-i.ensures in (
       (omega (arith, i.0.0), omega (arith, c.loop-i-test.true), omega (arith, i.0.2)),
       (luma_turn v.s v.w v.luma.now _ g room i.1.0 c.put_luma.ensures, begun_at (omega arith) k),
     )

@@ -12,19 +12,19 @@ use Rattle.plane_refusals.proofs.formed_verdict.Goals as goal
 use Rattle.plane_refusals.proofs.formed_verdict.Goals.{After-first_malformed-in_chroma, After-first_malformed-in_luma, Start}
 
 -- what is to be found in luma, and in chroma
-abbrev lumaSearch : Start → Search
-lumaSearch a = let v = a.args in first_failing (formed_test v.s v.f.luma_stride v.luma.now) v.f.width v.f.height
+abbrev luma_search : Start → Search
+luma_search a = let v = a.args in first_failing (formed_test v.s v.f.luma_stride v.luma.now) v.f.width v.f.height
 
-abbrev chromaSearch : Start → Search
-chromaSearch a =
+abbrev chroma_search : Start → Search
+chroma_search a =
     let v = a.args in
     first_failing (formed_test v.s v.f.chroma_stride v.chroma.now) (chroma_width v.s.subsampling v.f.width) (chroma_height v.s.subsampling v.f.height)
 
 -- is what was found
-in_luma_lem : (c : After-first_malformed-in_luma) → lumaSearch (goal.at.After-first_malformed-in_luma c).Start ≡ c.first_malformed-in_luma.result
+in_luma_lem : (c : After-first_malformed-in_luma) → luma_search (goal.at.After-first_malformed-in_luma c).Start ≡ c.first_malformed-in_luma.result
 in_luma_lem c = sym c.first_malformed-in_luma.ensures
 
-in_chroma_lem : (c : After-first_malformed-in_chroma) → chromaSearch (goal.at.After-first_malformed-in_chroma c).Start ≡ c.first_malformed-in_chroma.result
+in_chroma_lem : (c : After-first_malformed-in_chroma) → chroma_search (goal.at.After-first_malformed-in_chroma c).Start ≡ c.first_malformed-in_chroma.result
 in_chroma_lem c = sym (c.first_malformed-in_chroma.ensures ∙ search_by c.chroma_width-wide.ensures c.chroma_height-rows.ensures _)
 
 pub place_of-requires : goal.place_of-requires

@@ -21,9 +21,9 @@ loop-x-preserved c =
     )
 
 -- the odd last column, put
-last-begun : (c : After-put_one_column) → let v = c.args in
+last_begun : (c : After-put_one_column) → let v = c.args in
     Begun (v.width * count v.s.channels) (row_by v.s v.r v.luma.now v.chroma.now) v.rgb.now c.put_one_column.new.rgb
-last-begun c =
+last_begun c =
     let v = c.args in
     let l = c.loop-x in
     let h = c.if-x-width.true in
@@ -35,7 +35,7 @@ last-begun c =
 pub returns-then-x-width : goal.returns-then-x-width
 returns-then-x-width c =
     let v = c.args in
-    whole_row v.s v.r v.luma.now v.chroma.now v.width c.requires.rows_fit v.rgb.now _ refl (last-begun (goal.at.returns-then-x-width c).After-put_one_column)
+    whole_row v.s v.r v.luma.now v.chroma.now v.width c.requires.rows_fit v.rgb.now _ refl (last_begun (goal.at.returns-then-x-width c).After-put_one_column)
 
 pub returns-else-x-width : goal.returns-else-x-width
 returns-else-x-width c =

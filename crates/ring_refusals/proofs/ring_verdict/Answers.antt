@@ -32,11 +32,11 @@ size_in c = size (goal.at.Else-size_off c).After-size_off false c.if-size_off.fa
 corner_in : (c : Else-window_off) → window_off c.args.f ≡ false
 corner_in c = corner (goal.at.Else-window_off c).After-window_off false c.if-window_off.false
 
-stride-in : (c : Else-stride_off) → stride_off c.args.s c.args.f ≡ false
-stride-in c = stride (goal.at.Else-stride_off c).After-stride_off false c.if-stride_off.false
+stride_in : (c : Else-stride_off) → stride_off c.args.s c.args.f ≡ false
+stride_in c = stride (goal.at.Else-stride_off c).After-stride_off false c.if-stride_off.false
 
-many-in : (c : Else-count_off) → outside 1 64 c.args.count ≡ false
-many-in c = many (goal.at.Else-count_off c).After-count_off false c.if-count_off.false
+many_in : (c : Else-count_off) → outside 1 64 c.args.count ≡ false
+many_in c = many (goal.at.Else-count_off c).After-count_off false c.if-count_off.false
 
 pub returns-then-size_off : goal.returns-then-size_off
 returns-then-size_off c = sym (stopped _ _ _ (size (goal.at.returns-then-size_off c).After-size_off _ c.if-size_off.true))
@@ -51,26 +51,26 @@ pub returns-then-count_off : goal.returns-then-count_off
 returns-then-count_off c =
     sym (skipped _ _ _ (size_in (goal.at.returns-then-count_off c).Else-size_off)
     ∙ skipped _ _ _ (corner_in (goal.at.returns-then-count_off c).Else-window_off)
-    ∙ skipped _ _ _ (stride-in (goal.at.returns-then-count_off c).Else-stride_off)
+    ∙ skipped _ _ _ (stride_in (goal.at.returns-then-count_off c).Else-stride_off)
     ∙ stopped _ _ _ (many (goal.at.returns-then-count_off c).After-count_off _ c.if-count_off.true))
 
 pub length_off-requires-clause-sized : goal.length_off-requires-clause-sized
 length_off-requires-clause-sized c =
-    (sized _ (size_in (goal.at.length_off-requires-clause-sized c).Else-size_off), (windowed _ (corner_in (goal.at.length_off-requires-clause-sized c).Else-window_off), strided _ _ (stride-in (goal.at.length_off-requires-clause-sized c).Else-stride_off)))
+    (sized _ (size_in (goal.at.length_off-requires-clause-sized c).Else-size_off), (windowed _ (corner_in (goal.at.length_off-requires-clause-sized c).Else-window_off), strided _ _ (stride_in (goal.at.length_off-requires-clause-sized c).Else-stride_off)))
 
 pub returns-then-length_off : goal.returns-then-length_off
 returns-then-length_off c =
     sym (skipped _ _ _ (size_in (goal.at.returns-then-length_off c).Else-size_off)
     ∙ skipped _ _ _ (corner_in (goal.at.returns-then-length_off c).Else-window_off)
-    ∙ skipped _ _ _ (stride-in (goal.at.returns-then-length_off c).Else-stride_off)
-    ∙ skipped _ _ _ (many-in (goal.at.returns-then-length_off c).Else-count_off)
+    ∙ skipped _ _ _ (stride_in (goal.at.returns-then-length_off c).Else-stride_off)
+    ∙ skipped _ _ _ (many_in (goal.at.returns-then-length_off c).Else-count_off)
     ∙ stopped _ _ _ (long (goal.at.returns-then-length_off c).After-length_off _ c.if-length_off.true))
 
 pub returns : goal.returns
 returns c =
     sym (skipped _ _ _ (size_in (goal.at.returns c).Else-size_off)
     ∙ skipped _ _ _ (corner_in (goal.at.returns c).Else-window_off)
-    ∙ skipped _ _ _ (stride-in (goal.at.returns c).Else-stride_off)
-    ∙ skipped _ _ _ (many-in (goal.at.returns c).Else-count_off)
+    ∙ skipped _ _ _ (stride_in (goal.at.returns c).Else-stride_off)
+    ∙ skipped _ _ _ (many_in (goal.at.returns c).Else-count_off)
     ∙ skipped _ _ _ (long (goal.at.returns c).After-length_off _ c.if-length_off.false)
     ∙ end)

@@ -27,11 +27,11 @@ precision c t h = sym c.precision_off.ensures ∙ h
 abbrev S : Else-precision_off → Settings
 S c = c.args.s
 
-depth-in : (c : Else-precision_off) → outside 10 16 (S c).depth ≡ false
-depth-in c = depth (goal.at.Else-precision_off c).After-depth_off false c.if-depth_off.false
+depth_in : (c : Else-precision_off) → outside 10 16 (S c).depth ≡ false
+depth_in c = depth (goal.at.Else-precision_off c).After-depth_off false c.if-depth_off.false
 
-precision-in : (c : Else-precision_off) → outside 1 13 (S c).precision ≡ false
-precision-in c = precision (goal.at.Else-precision_off c).After-precision_off false c.if-precision_off.false
+precision_in : (c : Else-precision_off) → outside 1 13 (S c).precision ≡ false
+precision_in c = precision (goal.at.Else-precision_off c).After-precision_off false c.if-precision_off.false
 
 pair : (c : After-pair_off) (t : Bool) → c.pair_off.result ≡ t → pair_off (matrix_of (S (goal.at.After-pair_off c).Else-precision_off).matrix) ≡ t
 pair c t h = ap pair_off (sym c.matrix_of-matrix.ensures) ∙ sym c.pair_off.ensures ∙ h
@@ -56,18 +56,18 @@ returns-then-precision_off-clause-exact c =
 
 pub returns-then-pair_off-clause-exact : goal.returns-then-pair_off-clause-exact
 returns-then-pair_off-clause-exact c =
-    refused (S (goal.at.returns-then-pair_off-clause-exact c).Else-precision_off) CustomPair (skipped _ _ _ (depth-in (goal.at.returns-then-pair_off-clause-exact c).Else-precision_off) ∙ skipped _ _ _ (precision-in (goal.at.returns-then-pair_off-clause-exact c).Else-precision_off) ∙ stopped _ _ _ (pair (goal.at.returns-then-pair_off-clause-exact c).After-pair_off true c.if-pair_off.true))
+    refused (S (goal.at.returns-then-pair_off-clause-exact c).Else-precision_off) CustomPair (skipped _ _ _ (depth_in (goal.at.returns-then-pair_off-clause-exact c).Else-precision_off) ∙ skipped _ _ _ (precision_in (goal.at.returns-then-pair_off-clause-exact c).Else-precision_off) ∙ stopped _ _ _ (pair (goal.at.returns-then-pair_off-clause-exact c).After-pair_off true c.if-pair_off.true))
 
 pub returns-then-weight_off-clause-exact : goal.returns-then-weight_off-clause-exact
 returns-then-weight_off-clause-exact c =
     let p = pair (goal.at.returns-then-weight_off-clause-exact c).After-pair_off false c.if-pair_off.false in
-    refused (S (goal.at.returns-then-weight_off-clause-exact c).Else-precision_off) WeightOff (skipped _ _ _ (depth-in (goal.at.returns-then-weight_off-clause-exact c).Else-precision_off) ∙ skipped _ _ _ (precision-in (goal.at.returns-then-weight_off-clause-exact c).Else-precision_off) ∙ skipped _ _ _ p ∙ stopped _ _ _ (weight (goal.at.returns-then-weight_off-clause-exact c).After-weight_off true c.if-weight_off.true))
+    refused (S (goal.at.returns-then-weight_off-clause-exact c).Else-precision_off) WeightOff (skipped _ _ _ (depth_in (goal.at.returns-then-weight_off-clause-exact c).Else-precision_off) ∙ skipped _ _ _ (precision_in (goal.at.returns-then-weight_off-clause-exact c).Else-precision_off) ∙ skipped _ _ _ p ∙ stopped _ _ _ (weight (goal.at.returns-then-weight_off-clause-exact c).After-weight_off true c.if-weight_off.true))
 
 pub returns-then-some_code_off-clause-exact : goal.returns-then-some_code_off-clause-exact
 returns-then-some_code_off-clause-exact c =
     let p = pair (goal.at.returns-then-some_code_off-clause-exact c).After-pair_off false c.if-pair_off.false in
     let w = weight (goal.at.returns-then-some_code_off-clause-exact c).After-weight_off false c.if-weight_off.false in
-    refused (S (goal.at.returns-then-some_code_off-clause-exact c).Else-precision_off) CodeOutside (skipped _ _ _ (depth-in (goal.at.returns-then-some_code_off-clause-exact c).Else-precision_off) ∙ skipped _ _ _ (precision-in (goal.at.returns-then-some_code_off-clause-exact c).Else-precision_off) ∙ skipped _ _ _ p ∙ skipped _ _ _ w ∙ stopped _ _ _ (code (goal.at.returns-then-some_code_off-clause-exact c).After-some_code_off true c.if-some_code_off.true))
+    refused (S (goal.at.returns-then-some_code_off-clause-exact c).Else-precision_off) CodeOutside (skipped _ _ _ (depth_in (goal.at.returns-then-some_code_off-clause-exact c).Else-precision_off) ∙ skipped _ _ _ (precision_in (goal.at.returns-then-some_code_off-clause-exact c).Else-precision_off) ∙ skipped _ _ _ p ∙ skipped _ _ _ w ∙ stopped _ _ _ (code (goal.at.returns-then-some_code_off-clause-exact c).After-some_code_off true c.if-some_code_off.true))
 
 pub returns-clause-exact : goal.returns-clause-exact
 returns-clause-exact c =
@@ -75,7 +75,7 @@ returns-clause-exact c =
     let w = weight (goal.at.returns-clause-exact c).After-weight_off false c.if-weight_off.false in
     let o = code (goal.at.returns-clause-exact c).After-some_code_off false c.if-some_code_off.false in
     let n = c.weights_of-w in
-    let q = ap (λ (w : Weights). given (weight_values w)) n.ensures.exact ∙ weighed (S (goal.at.returns-clause-exact c).Else-precision_off) (skipped _ _ _ (depth-in (goal.at.returns-clause-exact c).Else-precision_off) ∙ skipped _ _ _ (precision-in (goal.at.returns-clause-exact c).Else-precision_off) ∙ skipped _ _ _ p ∙ skipped _ _ _ w ∙ skipped _ _ _ o ∙ end) in
+    let q = ap (λ (w : Weights). given (weight_values w)) n.ensures.exact ∙ weighed (S (goal.at.returns-clause-exact c).Else-precision_off) (skipped _ _ _ (depth_in (goal.at.returns-clause-exact c).Else-precision_off) ∙ skipped _ _ _ (precision_in (goal.at.returns-clause-exact c).Else-precision_off) ∙ skipped _ _ _ p ∙ skipped _ _ _ w ∙ skipped _ _ _ o ∙ end) in
     q
 
 pub returns-clause-usable : goal.returns-clause-usable
@@ -84,5 +84,5 @@ returns-clause-usable c =
     let w = weight (goal.at.returns-clause-usable c).After-weight_off false c.if-weight_off.false in
     let o = code (goal.at.returns-clause-usable c).After-some_code_off false c.if-some_code_off.false in
     let n = c.weights_of-w in
-    let q = ap (λ (w : Weights). given (weight_values w)) n.ensures.exact ∙ weighed (S (goal.at.returns-clause-usable c).Else-precision_off) (skipped _ _ _ (depth-in (goal.at.returns-clause-usable c).Else-precision_off) ∙ skipped _ _ _ (precision-in (goal.at.returns-clause-usable c).Else-precision_off) ∙ skipped _ _ _ p ∙ skipped _ _ _ w ∙ skipped _ _ _ o ∙ end) in
+    let q = ap (λ (w : Weights). given (weight_values w)) n.ensures.exact ∙ weighed (S (goal.at.returns-clause-usable c).Else-precision_off) (skipped _ _ _ (depth_in (goal.at.returns-clause-usable c).Else-precision_off) ∙ skipped _ _ _ (precision_in (goal.at.returns-clause-usable c).Else-precision_off) ∙ skipped _ _ _ p ∙ skipped _ _ _ w ∙ skipped _ _ _ o ∙ end) in
     usable (S (goal.at.returns-clause-usable c).Else-precision_off) n.result n.ensures.held q

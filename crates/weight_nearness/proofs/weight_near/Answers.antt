@@ -22,8 +22,8 @@ X c = c.size_of_weight-n.result * c.args.d
 abbrev Y : After-size_of_weight-n → ℕ
 Y c = (c.args.a.size * 2 ^ c.args.precision) % 18446744073709551616
 
-size-lt : (c : Start) → c.args.a.size < 4294967296
-size-lt c = omega arith
+size_lt : (c : Start) → c.args.a.size < 4294967296
+size_lt c = omega arith
 
 -- a signed argument goes to a call through its bits
 size_is : (c : After-size_of_weight-n) → c.size_of_weight-n.result ≡ nat_abs c.args.w
@@ -33,10 +33,10 @@ x_lt : (c : After-size_of_weight-n) → X c < 2 ^ 63
 x_lt c = product_lt c.size_of_weight-n.result c.args.d (subst (λ (n : ℕ). n ≤ 2147483648) (sym (size_is c)) (size_le c.args.w c.ranges.w)) c.ranges.d.fits
 
 y_is : (c : After-size_of_weight-n) → Y c ≡ c.args.a.size * 2 ^ c.args.precision
-y_is c = shifted c.args.a.size c.args.precision (size-lt (goal.at.After-size_of_weight-n c).Start) c.requires
+y_is c = shifted c.args.a.size c.args.precision (size_lt (goal.at.After-size_of_weight-n c).Start) c.requires
 
-y-lt : (c : After-size_of_weight-n) → c.args.a.size * 2 ^ c.args.precision < 2 ^ 46
-y-lt c = shifted_lt c.args.a.size c.args.precision (size-lt (goal.at.After-size_of_weight-n c).Start) c.requires
+y_lt : (c : After-size_of_weight-n) → c.args.a.size * 2 ^ c.args.precision < 2 ^ 46
+y_lt c = shifted_lt c.args.a.size c.args.precision (size_lt (goal.at.After-size_of_weight-n c).Start) c.requires
 
 -- the answer, where w's sign and `minus` are known
 answer : (c : After-size_of_weight-n) (s m : Bool) → lt_z (to_z w32 (of_z w32 c.args.w)) (pos 0) ≡ s → c.args.a.minus ≡ m
@@ -53,13 +53,13 @@ pub returns-then-minus : goal.returns-then-minus
 returns-then-minus c = ap (λ (n : ℕ). leb n (51 * c.args.d / 100)) c.apart.ensures ∙ answer (goal.at.returns-then-minus c).After-size_of_weight-n true true c.if-w-lt0.true c.if-minus.true
 
 pub overflow_add-result : goal.overflow_add-result
-overflow_add-result c = omega (arith, x_lt (goal.at.overflow_add-result c).After-size_of_weight-n, y_is (goal.at.overflow_add-result c).After-size_of_weight-n, y-lt (goal.at.overflow_add-result c).After-size_of_weight-n)
+overflow_add-result c = omega (arith, x_lt (goal.at.overflow_add-result c).After-size_of_weight-n, y_is (goal.at.overflow_add-result c).After-size_of_weight-n, y_lt (goal.at.overflow_add-result c).After-size_of_weight-n)
 
 pub returns-then-w-lt0 : goal.returns-then-w-lt0
 returns-then-w-lt0 c = answer (goal.at.returns-then-w-lt0 c).After-size_of_weight-n true false c.if-w-lt0.true c.if-minus.false
 
 pub overflow_add-result-then-minus-2 : goal.overflow_add-result-then-minus-2
-overflow_add-result-then-minus-2 c = omega (arith, x_lt (goal.at.overflow_add-result-then-minus-2 c).After-size_of_weight-n, y_is (goal.at.overflow_add-result-then-minus-2 c).After-size_of_weight-n, y-lt (goal.at.overflow_add-result-then-minus-2 c).After-size_of_weight-n)
+overflow_add-result-then-minus-2 c = omega (arith, x_lt (goal.at.overflow_add-result-then-minus-2 c).After-size_of_weight-n, y_is (goal.at.overflow_add-result-then-minus-2 c).After-size_of_weight-n, y_lt (goal.at.overflow_add-result-then-minus-2 c).After-size_of_weight-n)
 
 pub returns-then-minus-2 : goal.returns-then-minus-2
 returns-then-minus-2 c = answer (goal.at.returns-then-minus-2 c).After-size_of_weight-n false true c.if-w-lt0.false c.if-minus-2.true
