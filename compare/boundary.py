@@ -81,11 +81,11 @@ def with_lengths(arguments):
 
 
 def rattle():
-    """The library has the exported functions of the crate `ayresokum` alone; their structs stand in any crate."""
+    """The library has the exported functions of the crate `ayresokum_c` alone; their structs stand in any crate."""
     def sources(crate):
         return ''.join(read(path) for path in sorted(glob(f'crates/{crate}/src/**/*.rt', root_dir=ROOT, recursive=True)))
     text = sources('*')
-    found = re.findall(r'#\[no_mangle\]\s*pub extern "C" fn (\w+)\((.*?)\) -> (\w+)', sources('ayresokum'), re.S)
+    found = re.findall(r'#\[unsafe\(no_mangle\)\]\s*pub extern "C" fn (\w+)\((.*?)\) -> (\w+)', sources('ayresokum_c'), re.S)
     functions = {name: (list(with_lengths(rust_fields(arguments))), rust_type(answer)) for name, arguments, answer in found}
     return Declared('crates/*/src', rust_records(text), functions)
 

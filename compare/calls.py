@@ -187,7 +187,7 @@ def drawn_frame(draw, s, padding=0):
     most = draw.choice((0, 3))
     left, right, above, below = (draw.randint(0, most) for _ in range(4))
     stride = (left + width + right) * model.COUNT[s.channels] + draw.randint(0, 2)
-    luma, chroma = (row + draw.randint(0, padding) for row in (width, s.chroma_size(width, height)[0]))
+    luma, chroma = (row + (draw.randint(0, padding) if padding else 0) for row in (width, s.chroma_size(width, height)[0]))
     return model.Frame(width, height, stride, luma, chroma, left, above, above + height + below)
 
 

@@ -14,6 +14,6 @@ rm -rf "$work/crates"
 cp -r "$other/crates" "$work/crates"
 rm -rf "$work/crates/round_weight" "$work"/crates/*/out
 cp -r crates/round_weight "$work/crates/round_weight"
-{ grep -v '^round_weight:' "$other/crates.txt"; grep '^round_weight:' crates.txt; } >"$work/crates.txt"
+{ grep -v '^round_weight\b' "$other/crates.txt"; grep '^round_weight\b' crates.txt; } >"$work/crates.txt"
 cd "$work/crates/round_weight"
 rt lib

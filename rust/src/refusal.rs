@@ -128,7 +128,7 @@ impl Refusal {
             Refusal::CodeOutside => {
                 "one of five codes is outside 0 to m: white's luma, Cb of full blue and of full yellow, Cr of full red and of full cyan"
             }
-            Refusal::CustomUnchecked => "check and way back to RGB only: the matrix is custom",
+            Refusal::CustomUnchecked => "check only: the matrix is custom",
             Refusal::Size => "width or height is 0 or over 16,384",
             Refusal::Stride => {
                 "a stride is shorter than its visible row, the source's than first column + width, or over 65,536"

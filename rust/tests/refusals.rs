@@ -38,7 +38,7 @@ const ALL: [(Refusal, u32, &str); 14] = [
     (
         Refusal::CustomUnchecked,
         6,
-        "refusal 6: check and way back to RGB only: the matrix is custom",
+        "refusal 6: check only: the matrix is custom",
     ),
     (
         Refusal::Size,

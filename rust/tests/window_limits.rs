@@ -1,13 +1,12 @@
 //! Refusal 12 by the crate's functions: both sides of its limits, each number alone and all together, and its turn in the order; and the
 //! strides and lengths that refusals 8 and 9 ask of a window.
 use ayresokum::{
-    check, convert, convert_ring, to_rgb, Frame, Refusal, RingEnded, Settings, Strides, Window,
+    check, convert, convert_ring, Frame, Refusal, RingEnded, Settings, Strides, Window,
     YuvChromaSubsampling, YuvRange, YuvSourceChannels, YuvStandardMatrix,
 };
 
 const MOST: usize = 16_384;
-/// What all buffers hold before a call: a sample of 10 bits, and a word that is well formed.
-const OLD: u16 = 7 << 6;
+const OLD: u16 = 7;
 const SETTINGS: Settings = Settings::new(
     10,
     YuvStandardMatrix::Bt709,
@@ -40,23 +39,20 @@ fn lengths(frame: &Frame, settings: &Settings) -> Lengths {
     [lengths.source, lengths.luma, lengths.chroma]
 }
 
-/// The refusals that convert, check, the way back and a ring of so many frames give for buffers of these lengths. Where one is given no
-/// buffer changes, and no frame of a ring is written. What check says without one is not looked at.
+/// The refusals that convert, check and a ring of so many frames give for buffers of these lengths. Where one is given no plane changes,
+/// and no frame of a ring is written. What check says without one is not looked at.
 fn refusals(
     settings: &Settings,
     frame: &Frame,
     count: usize,
     lengths: Lengths,
-) -> [Option<Refusal>; 4] {
+) -> [Option<Refusal>; 3] {
     let [source, luma, chroma] = lengths.map(|length| vec![OLD; length]);
     let mut planes = [luma.clone(), chroma.clone()];
     let [to_luma, to_chroma] = &mut planes;
     let by_convert = convert(settings, frame, &source, to_luma, to_chroma).err();
     assert!(by_convert.is_none() || planes == [luma.clone(), chroma.clone()]);
     let by_check = check(settings, frame, &source, &luma, &chroma).err();
-    let mut rgb = source.clone();
-    let by_way_back = to_rgb(settings, frame, &luma, &chroma, &mut rgb).err();
-    assert!(by_way_back.is_none() || rgb == source);
     let mut planes = [luma.clone(), chroma.clone()];
     let [to_luma, to_chroma] = &mut planes;
     let ring = convert_ring(settings, frame, count, &source, to_luma, to_chroma);
@@ -65,8 +61,7 @@ fn refusals(
         assert_eq!(written, 0);
         refusal
     };
-    let by_ring = ring.err().map(refusal);
-    [by_convert, by_check, by_way_back, by_ring]
+    [by_convert, by_check, ring.err().map(refusal)]
 }
 
 /// A frame that is taken, with buffers of its own lengths.
@@ -74,7 +69,7 @@ fn assert_taken(frame: Frame) {
     let lengths = lengths(&frame, &SETTINGS);
     assert_eq!(
         refusals(&SETTINGS, &frame, 1, lengths),
-        [None; 4],
+        [None; 3],
         "{frame:?}"
     );
 }
@@ -83,7 +78,7 @@ fn assert_taken(frame: Frame) {
 fn assert_refused(frame: Frame, refusal: Refusal) {
     assert_eq!(
         refusals(&SETTINGS, &frame, 1, NONE),
-        [Some(refusal); 4],
+        [Some(refusal); 3],
         "{frame:?}"
     );
 }
@@ -210,16 +205,13 @@ fn order() {
         ..SETTINGS
     };
     let given = |settings: &Settings, frame: &Frame, count| refusals(settings, frame, count, NONE);
-    assert_eq!(given(&depth, &size, 65), [Some(Refusal::Depth); 4]);
-    assert_eq!(given(&SETTINGS, &size, 65), [Some(Refusal::Size); 4]);
-    assert_eq!(given(&SETTINGS, &window, 65), [Some(Refusal::Window); 4]);
-    assert_eq!(given(&SETTINGS, &stride, 65), [Some(Refusal::Stride); 4]);
+    assert_eq!(given(&depth, &size, 65), [Some(Refusal::Depth); 3]);
+    assert_eq!(given(&SETTINGS, &size, 65), [Some(Refusal::Size); 3]);
+    assert_eq!(given(&SETTINGS, &window, 65), [Some(Refusal::Window); 3]);
+    assert_eq!(given(&SETTINGS, &stride, 65), [Some(Refusal::Stride); 3]);
     let [length, count] = [Some(Refusal::Length), Some(Refusal::Count)];
-    assert_eq!(
-        given(&SETTINGS, &FRAME, 65),
-        [length, length, length, count]
-    );
-    assert_eq!(given(&SETTINGS, &FRAME, 64), [length; 4]);
+    assert_eq!(given(&SETTINGS, &FRAME, 65), [length, length, count]);
+    assert_eq!(given(&SETTINGS, &FRAME, 64), [length; 3]);
     let custom = Settings {
         matrix: YuvStandardMatrix::Custom(0.25, 0.125),
         ..SETTINGS
@@ -227,7 +219,7 @@ fn order() {
     let [window_off, unchecked] = [Some(Refusal::Window), Some(Refusal::CustomUnchecked)];
     assert_eq!(
         given(&custom, &window, 65),
-        [window_off, unchecked, unchecked, window_off]
+        [window_off, unchecked, window_off]
     );
 }
 
@@ -242,7 +234,7 @@ fn nothing_written() {
         let lengths = [30, 6, 4];
         assert_eq!(
             refusals(&SETTINGS, &frame, 1, lengths),
-            [Some(Refusal::Window); 4]
+            [Some(Refusal::Window); 3]
         );
     }
 }
@@ -276,15 +268,15 @@ fn strides() {
         (&rgba, 2, 20),
         (&rgba, MOST - 3, 65_536),
     ] {
-        let stride = [Some(Refusal::Stride); 4];
-        assert_eq!(refusal(settings, first_column, covered), [None; 4]);
+        let stride = [Some(Refusal::Stride); 3];
+        assert_eq!(refusal(settings, first_column, covered), [None; 3]);
         assert_eq!(refusal(settings, first_column, covered - 1), stride);
-        assert_eq!(refusal(settings, first_column, 65_536), [None; 4]);
+        assert_eq!(refusal(settings, first_column, 65_536), [None; 3]);
         assert_eq!(refusal(settings, first_column, 65_537), stride);
     }
     // With four channels no stride covers one column more.
     for stride in [65_536, 65_540] {
-        assert_eq!(refusal(&rgba, MOST - 2, stride), [Some(Refusal::Stride); 4]);
+        assert_eq!(refusal(&rgba, MOST - 2, stride), [Some(Refusal::Stride); 3]);
     }
 }
 
@@ -297,14 +289,14 @@ fn wrong_lengths() {
     for source in [0, 2 * 15, 3 * 15, 4 * 15, 74, 76, 6 * 15] {
         let wrong = [source, 6, 4];
         let given = refusals(&SETTINGS, &FRAME, 1, wrong);
-        assert_eq!(given, [Some(Refusal::Length); 4], "{wrong:?}");
+        assert_eq!(given, [Some(Refusal::Length); 3], "{wrong:?}");
     }
     for wrong in [[75, 15, 4], [75, 6, 12]] {
         let given = refusals(&SETTINGS, &FRAME, 1, wrong);
-        assert_eq!(given, [Some(Refusal::Length); 4], "{wrong:?}");
+        assert_eq!(given, [Some(Refusal::Length); 3], "{wrong:?}");
     }
     let of_two = right.map(|length| 2 * length);
-    let [.., by_ring] = refusals(&SETTINGS, &FRAME, 2, of_two);
+    let [_, _, by_ring] = refusals(&SETTINGS, &FRAME, 2, of_two);
     assert_eq!(by_ring, None);
     for source in [
         75,
@@ -316,7 +308,7 @@ fn wrong_lengths() {
         151,
     ] {
         let [_, luma, chroma] = of_two;
-        let [.., by_ring] = refusals(&SETTINGS, &FRAME, 2, [source, luma, chroma]);
+        let [_, _, by_ring] = refusals(&SETTINGS, &FRAME, 2, [source, luma, chroma]);
         assert_eq!(by_ring, Some(Refusal::Length), "{source}");
     }
 }
