@@ -170,11 +170,11 @@ def numbered(found):
 
 
 def case_numbers():
-    """The numbers of each case of the settings' enumerations, by place. crates/numbers has `0 => A, 1 => B, _ => C` for A, B, C."""
+    """The numbers of each case of the settings' enumerations, by place. crates/numbers has `0 => Ok(A), 1 => Ok(B), _ => Err(..)` for A and B."""
     matches = [arms for arms in re.findall(r'match n \{(.*?)\}', read('crates/numbers/src/lib.rt'), re.S) if '::' in arms]
     enums = re.findall(r'pub enum \w+ \{(.*?)\}', read('rust/src/settings.rs'), re.S)
     c_enums = re.findall(r'enum ayresokum_(\w+) \{(.*?)\}', read('include/ayresokum.h'), re.S)
-    places = {'crates/numbers/src/lib.rt': [[(name, n) for n, name in re.findall(r'(\w+) => \w+::(\w+)', arms)] for arms in matches],
+    places = {'crates/numbers/src/lib.rt': [[(name, n) for n, name in re.findall(r'(\d+) => Ok\(\w+::(\w+)', arms)] for arms in matches],
               'rust/src/settings.rs, numbers.rs': [re.findall(r'(\w+) = (\d+)', body) for body in enums]
               + [re.findall(r'YuvStandardMatrix::(\w+).*? => \((\d+)', read('rust/src/numbers.rs'))],
               'include/ayresokum.h': [re.findall(r'AYRESOKUM_(\w+) = (\d+)', body) for kind, body in c_enums

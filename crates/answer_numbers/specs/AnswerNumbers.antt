@@ -1,20 +1,13 @@
 -- The answers of the services as numbers. Definitions only.
-use Rattle.std.specs.Prelude.{ℕ, pos}
+use Rattle.rules.specs.Answers.{Settled, Checked}
+use Rattle.std.specs.Prelude.{ℕ, pos, Ok, Err, None, Some}
 use Rattle.rules.specs.declared.Place.{Place}
 use Rattle.rules.specs.declared.Refusal.{Refusal}
 use Rattle.rules.specs.declared.Refusal.TheVariants.{Depth, Precision, CustomPair, WeightOff, CodeOutside, CustomUnchecked, Size, Stride, Length, TooLarge, Count, Window, Malformed}
 use Rattle.rules.specs.declared.SourcePlace.{SourcePlace}
 use Rattle.rules.specs.declared.Weights.{Weights}
-use Rattle.rules.specs.declared.Settled.{Settled}
-use Rattle.rules.specs.declared.Settled.TheVariants as settled
-use Rattle.rules.specs.declared.Converted.{Converted}
-use Rattle.rules.specs.declared.Converted.TheVariants as converted
-use Rattle.rules.specs.declared.Verdict.{Verdict}
-use Rattle.rules.specs.declared.Verdict.TheVariants.{Passes, Refuses}
 use Rattle.rules.specs.declared.Ringed.{Ringed}
-use Rattle.rules.specs.declared.Checked.{Checked}
-use Rattle.rules.specs.declared.Checked.TheVariants as checked
-use Rattle.rules.specs.Refusals.{number_of}
+use Rattle.rules.specs.Refusals.{number_of, Verdict}
 use Rattle.answer_numbers.specs.declared.SettledNumbers.{SettledNumbers}
 use Rattle.answer_numbers.specs.declared.ConvertedNumbers.{ConvertedNumbers}
 use Rattle.answer_numbers.specs.declared.RingNumbers.{RingNumbers}
@@ -43,8 +36,8 @@ abbrev pub weightless : ℕ → SettledNumbers
 weightless n = record { refusal = n; weights = no_weights }
 
 abbrev pub settled_numbers : Settled → SettledNumbers
-settled_numbers (settled.Weighed w) = record { refusal = 0; weights = w }
-settled_numbers (settled.Refused r) = weightless (number_of r)
+settled_numbers (Ok w) = record { refusal = 0; weights = w }
+settled_numbers (Err r) = weightless (number_of r)
 
 -- ---- the places that answers carry; what does not apply is 0
 
@@ -91,16 +84,16 @@ place_of (Malformed p) = p
 abbrev pub refused_for : ℕ → SourcePlace → ConvertedNumbers
 refused_for refusal sample = record { refusal = refusal; sample = sample }
 
-abbrev pub converted_numbers : Converted → ConvertedNumbers
-converted_numbers converted.Done = refused_for 0 no_sample
-converted_numbers (converted.Refused r) = refused_for (number_of r) (sample_of r)
+abbrev pub converted_numbers : Verdict → ConvertedNumbers
+converted_numbers (Ok u) = refused_for 0 no_sample
+converted_numbers (Err r) = refused_for (number_of r) (sample_of r)
 
 abbrev pub ring_told : ℕ → ℕ → SourcePlace → RingNumbers
 ring_told written refusal sample = record { written = written; refusal = refusal; sample = sample }
 
 abbrev pub ring_ended : ℕ → Verdict → RingNumbers
-ring_ended written Passes = ring_told written 0 no_sample
-ring_ended written (Refuses r) = ring_told written (number_of r) (sample_of r)
+ring_ended written (Ok u) = ring_told written 0 no_sample
+ring_ended written (Err r) = ring_told written (number_of r) (sample_of r)
 
 abbrev pub ring_numbers : Ringed → RingNumbers
 ring_numbers r = ring_ended r.written r.ended
@@ -109,13 +102,13 @@ abbrev pub told : ℕ → ℕ → Place → SourcePlace → CheckedNumbers
 told refusal wrong place sample = record { refusal = refusal; wrong = wrong; place = place; sample = sample }
 
 abbrev pub checked_numbers : Checked → CheckedNumbers
-checked_numbers checked.Accepted = told 0 0 no_place no_sample
-checked_numbers (checked.Wrong p) = told 0 1 p no_sample
-checked_numbers (checked.Refused r) = told (number_of r) 0 no_place (sample_of r)
+checked_numbers (Ok None) = told 0 0 no_place no_sample
+checked_numbers (Ok (Some p)) = told 0 1 p no_sample
+checked_numbers (Err r) = told (number_of r) 0 no_place (sample_of r)
 
 abbrev pub restored_for : ℕ → Place → RestoredNumbers
 restored_for refusal place = record { refusal = refusal; place = place }
 
-abbrev pub restored_numbers : Converted → RestoredNumbers
-restored_numbers converted.Done = restored_for 0 no_place
-restored_numbers (converted.Refused r) = restored_for (number_of r) (place_of r)
+abbrev pub restored_numbers : Verdict → RestoredNumbers
+restored_numbers (Ok u) = restored_for 0 no_place
+restored_numbers (Err r) = restored_for (number_of r) (place_of r)

@@ -4,7 +4,8 @@
 ghost use Rattle.std.specs.Prelude.{◌≡◌};
 ghost use Rattle.answer_numbers.specs.AnswerNumbers.{unnamed, weightless, settled_numbers, no_sample, sample_of, refused_for, converted_numbers, ring_told, ring_numbers, no_place, told, checked_numbers, place_of, restored_for, restored_numbers};
 
-use rules::{Checked, Converted, Place, Refusal, Ringed, Settled, SourcePlace, Verdict, Weights};
+use numbers::Unnamed;
+use rules::{Place, Refusal, Ringed, SourcePlace, Weights};
 
 // Refusal 0 is success; the nine weights are 0 on a refusal.
 #[repr(C)]
@@ -55,45 +56,31 @@ const UNNAMED: u32 = 18;
 fn weightless(refusal: u32) -> SettledNumbers
     ensures { result ≡ weightless refusal }
 {
-    let weights = Weights {
-        yr: 0,
-        yg: 0,
-        yb: 0,
-        cb_r: 0,
-        cb_g: 0,
-        cb_b: 0,
-        cr_r: 0,
-        cr_g: 0,
-        cr_b: 0,
-    };
-    SettledNumbers { refusal, weights }
-}
-
-pub fn settled_numbers(answer: Settled) -> SettledNumbers
-    ensures { result ≡ settled_numbers answer }
-{
-    match answer {
-        Settled::Refused(r) => weightless(r.number()),
-        Settled::Weighed(w) => SettledNumbers {
-            refusal: 0,
-            weights: w,
-        },
+    SettledNumbers {
+        refusal,
+        weights: Weights::default(),
     }
 }
 
-pub fn settled_unnamed() -> SettledNumbers
-    ensures { result ≡ weightless unnamed }
-{
-    weightless(UNNAMED)
+impl From<Result<Weights, Refusal>> for SettledNumbers {
+    ghost from_gives = { λ answer numbers. numbers ≡ settled_numbers answer };
+
+    fn from(answer: Result<Weights, Refusal>) -> Self {
+        match answer {
+            Ok(weights) => SettledNumbers {
+                refusal: 0,
+                weights,
+            },
+            Err(r) => weightless(r.number()),
+        }
+    }
 }
 
-fn no_sample() -> SourcePlace
-    ensures { result ≡ no_sample }
-{
-    SourcePlace {
-        row: 0,
-        pixel: 0,
-        channel: 0,
+impl From<Unnamed> for SettledNumbers {
+    ghost from_gives = { λ _ numbers. numbers ≡ weightless unnamed };
+
+    fn from(_unnamed: Unnamed) -> Self {
+        weightless(UNNAMED)
     }
 }
 
@@ -102,19 +89,8 @@ fn sample_of(r: Refusal) -> SourcePlace
     ensures { result ≡ sample_of r }
 {
     match r {
-        Refusal::Depth => no_sample(),
-        Refusal::Precision => no_sample(),
-        Refusal::CustomPair => no_sample(),
-        Refusal::WeightOff => no_sample(),
-        Refusal::CodeOutside => no_sample(),
-        Refusal::CustomUnchecked => no_sample(),
-        Refusal::Size => no_sample(),
-        Refusal::Stride => no_sample(),
-        Refusal::Length => no_sample(),
         Refusal::TooLarge(p) => p,
-        Refusal::Count => no_sample(),
-        Refusal::Window => no_sample(),
-        Refusal::Malformed(_) => no_sample(),
+        _ => SourcePlace::default(),
     }
 }
 
@@ -124,19 +100,23 @@ fn refused_for(refusal: u32, sample: SourcePlace) -> ConvertedNumbers
     ConvertedNumbers { refusal, sample }
 }
 
-pub fn converted_numbers(answer: Converted) -> ConvertedNumbers
-    ensures { result ≡ converted_numbers answer }
-{
-    match answer {
-        Converted::Done => refused_for(0, no_sample()),
-        Converted::Refused(r) => refused_for(r.number(), sample_of(r)),
+impl From<Result<(), Refusal>> for ConvertedNumbers {
+    ghost from_gives = { λ answer numbers. numbers ≡ converted_numbers answer };
+
+    fn from(answer: Result<(), Refusal>) -> Self {
+        match answer {
+            Ok(()) => refused_for(0, SourcePlace::default()),
+            Err(r) => refused_for(r.number(), sample_of(r)),
+        }
     }
 }
 
-pub fn converted_unnamed() -> ConvertedNumbers
-    ensures { result ≡ refused_for unnamed no_sample }
-{
-    refused_for(UNNAMED, no_sample())
+impl From<Unnamed> for ConvertedNumbers {
+    ghost from_gives = { λ _ numbers. numbers ≡ refused_for unnamed no_sample };
+
+    fn from(_unnamed: Unnamed) -> Self {
+        refused_for(UNNAMED, SourcePlace::default())
+    }
 }
 
 fn ring_told(written: u32, refusal: u32, sample: SourcePlace) -> RingNumbers
@@ -149,29 +129,22 @@ fn ring_told(written: u32, refusal: u32, sample: SourcePlace) -> RingNumbers
     }
 }
 
-pub fn ring_numbers(answer: Ringed) -> RingNumbers
-    ensures { result ≡ ring_numbers answer }
-{
-    let ended = answer.ended;
-    match ended {
-        Verdict::Passes => ring_told(answer.written, 0, no_sample()),
-        Verdict::Refuses(r) => ring_told(answer.written, r.number(), sample_of(r)),
+impl From<Ringed> for RingNumbers {
+    ghost from_gives = { λ answer numbers. numbers ≡ ring_numbers answer };
+
+    fn from(answer: Ringed) -> Self {
+        match answer.ended {
+            Ok(()) => ring_told(answer.written, 0, SourcePlace::default()),
+            Err(r) => ring_told(answer.written, r.number(), sample_of(r)),
+        }
     }
 }
 
-pub fn ring_unnamed() -> RingNumbers
-    ensures { result ≡ ring_told 0 unnamed no_sample }
-{
-    ring_told(0, UNNAMED, no_sample())
-}
+impl From<Unnamed> for RingNumbers {
+    ghost from_gives = { λ _ numbers. numbers ≡ ring_told 0 unnamed no_sample };
 
-fn no_place() -> Place
-    ensures { result ≡ no_place }
-{
-    Place {
-        plane: 0,
-        row: 0,
-        element: 0,
+    fn from(_unnamed: Unnamed) -> Self {
+        ring_told(0, UNNAMED, SourcePlace::default())
     }
 }
 
@@ -186,20 +159,24 @@ fn told(refusal: u32, wrong: u32, place: Place, sample: SourcePlace) -> CheckedN
     }
 }
 
-pub fn checked_numbers(answer: Checked) -> CheckedNumbers
-    ensures { result ≡ checked_numbers answer }
-{
-    match answer {
-        Checked::Accepted => told(0, 0, no_place(), no_sample()),
-        Checked::Wrong(p) => told(0, 1, p, no_sample()),
-        Checked::Refused(r) => told(r.number(), 0, no_place(), sample_of(r)),
+impl From<Result<Option<Place>, Refusal>> for CheckedNumbers {
+    ghost from_gives = { λ answer numbers. numbers ≡ checked_numbers answer };
+
+    fn from(answer: Result<Option<Place>, Refusal>) -> Self {
+        match answer {
+            Ok(None) => told(0, 0, Place::default(), SourcePlace::default()),
+            Ok(Some(p)) => told(0, 1, p, SourcePlace::default()),
+            Err(r) => told(r.number(), 0, Place::default(), sample_of(r)),
+        }
     }
 }
 
-pub fn checked_unnamed() -> CheckedNumbers
-    ensures { result ≡ told unnamed 0 no_place no_sample }
-{
-    told(UNNAMED, 0, no_place(), no_sample())
+impl From<Unnamed> for CheckedNumbers {
+    ghost from_gives = { λ _ numbers. numbers ≡ told unnamed 0 no_place no_sample };
+
+    fn from(_unnamed: Unnamed) -> Self {
+        told(UNNAMED, 0, Place::default(), SourcePlace::default())
+    }
 }
 
 // The place in a plane that a refusal carries.
@@ -207,19 +184,8 @@ fn place_of(r: Refusal) -> Place
     ensures { result ≡ place_of r }
 {
     match r {
-        Refusal::Depth => no_place(),
-        Refusal::Precision => no_place(),
-        Refusal::CustomPair => no_place(),
-        Refusal::WeightOff => no_place(),
-        Refusal::CodeOutside => no_place(),
-        Refusal::CustomUnchecked => no_place(),
-        Refusal::Size => no_place(),
-        Refusal::Stride => no_place(),
-        Refusal::Length => no_place(),
-        Refusal::TooLarge(_) => no_place(),
-        Refusal::Count => no_place(),
-        Refusal::Window => no_place(),
         Refusal::Malformed(p) => p,
+        _ => Place::default(),
     }
 }
 
@@ -229,17 +195,21 @@ fn restored_for(refusal: u32, place: Place) -> RestoredNumbers
     RestoredNumbers { refusal, place }
 }
 
-pub fn restored_numbers(answer: Converted) -> RestoredNumbers
-    ensures { result ≡ restored_numbers answer }
-{
-    match answer {
-        Converted::Done => restored_for(0, no_place()),
-        Converted::Refused(r) => restored_for(r.number(), place_of(r)),
+impl From<Result<(), Refusal>> for RestoredNumbers {
+    ghost from_gives = { λ answer numbers. numbers ≡ restored_numbers answer };
+
+    fn from(answer: Result<(), Refusal>) -> Self {
+        match answer {
+            Ok(()) => restored_for(0, Place::default()),
+            Err(r) => restored_for(r.number(), place_of(r)),
+        }
     }
 }
 
-pub fn restored_unnamed() -> RestoredNumbers
-    ensures { result ≡ restored_for unnamed no_place }
-{
-    restored_for(UNNAMED, no_place())
+impl From<Unnamed> for RestoredNumbers {
+    ghost from_gives = { λ _ numbers. numbers ≡ restored_for unnamed no_place };
+
+    fn from(_unnamed: Unnamed) -> Self {
+        restored_for(UNNAMED, Place::default())
+    }
 }

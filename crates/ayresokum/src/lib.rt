@@ -8,8 +8,8 @@ ghost use Rattle.ayresokum.specs.Calls.{version, SettleCall, ConvertCall, luma_c
 use answer_numbers::{
     CheckedNumbers, ConvertedNumbers, RestoredNumbers, RingNumbers, SettledNumbers,
 };
-use numbers::{Meant, SettingsNumbers};
-use rules::Frame;
+use numbers::SettingsNumbers;
+use rules::{Frame, Settings};
 
 // The number of this interface, for a caller to compare with the one that it was written for.
 pub fn ayresokum_version() -> u32
@@ -21,10 +21,9 @@ pub fn ayresokum_version() -> u32
 pub fn ayresokum_settle(settings: SettingsNumbers) -> SettledNumbers
     ensures { SettleCall (settings_of settings) result }
 {
-    let meant = numbers::settings_of(settings);
-    match meant {
-        Meant::Nothing => answer_numbers::settled_unnamed(),
-        Meant::These(s) => answer_numbers::settled_numbers(settle::settle(s)),
+    match Settings::try_from(settings) {
+        Ok(s) => SettledNumbers::from(settle::settle(s)),
+        Err(unnamed) => SettledNumbers::from(unnamed),
     }
 }
 
@@ -39,12 +38,9 @@ pub fn ayresokum_convert(
     ensures luma { luma.new ≡ luma_call (settings_of settings) frame source.now luma.old chroma.old }
     ensures chroma { chroma.new ≡ chroma_call (settings_of settings) frame source.now luma.old chroma.old }
 {
-    let meant = numbers::settings_of(settings);
-    match meant {
-        Meant::Nothing => answer_numbers::converted_unnamed(),
-        Meant::These(s) => answer_numbers::converted_numbers(rgb_to_nv_p16::convert(
-            s, frame, source, luma, chroma,
-        )),
+    match Settings::try_from(settings) {
+        Ok(s) => ConvertedNumbers::from(rgb_to_nv_p16::convert(s, frame, source, luma, chroma)),
+        Err(unnamed) => ConvertedNumbers::from(unnamed),
     }
 }
 
@@ -60,12 +56,9 @@ pub fn ayresokum_convert_ring(
     ensures luma { luma.new ≡ luma_ring_call (settings_of settings) frame count source.now luma.old chroma.old }
     ensures chroma { chroma.new ≡ chroma_ring_call (settings_of settings) frame count source.now luma.old chroma.old }
 {
-    let meant = numbers::settings_of(settings);
-    match meant {
-        Meant::Nothing => answer_numbers::ring_unnamed(),
-        Meant::These(s) => answer_numbers::ring_numbers(ring::convert_ring(
-            s, frame, count, source, luma, chroma,
-        )),
+    match Settings::try_from(settings) {
+        Ok(s) => RingNumbers::from(ring::convert_ring(s, frame, count, source, luma, chroma)),
+        Err(unnamed) => RingNumbers::from(unnamed),
     }
 }
 
@@ -78,12 +71,9 @@ pub fn ayresokum_check(
 ) -> CheckedNumbers
     ensures { CheckCall (settings_of settings) frame source.now luma.now chroma.now result }
 {
-    let meant = numbers::settings_of(settings);
-    match meant {
-        Meant::Nothing => answer_numbers::checked_unnamed(),
-        Meant::These(s) => answer_numbers::checked_numbers(frame_check::check(
-            s, frame, source, luma, chroma,
-        )),
+    match Settings::try_from(settings) {
+        Ok(s) => CheckedNumbers::from(frame_check::check(s, frame, source, luma, chroma)),
+        Err(unnamed) => CheckedNumbers::from(unnamed),
     }
 }
 
@@ -97,11 +87,8 @@ pub fn ayresokum_to_rgb(
     ensures answer { ToRgbCall (settings_of settings) frame luma.now chroma.now rgb.old result }
     ensures rgb { rgb.new ≡ rgb_call (settings_of settings) frame luma.now chroma.now rgb.old }
 {
-    let meant = numbers::settings_of(settings);
-    match meant {
-        Meant::Nothing => answer_numbers::restored_unnamed(),
-        Meant::These(s) => answer_numbers::restored_numbers(nv_p16_to_rgb::to_rgb(
-            s, frame, luma, chroma, rgb,
-        )),
+    match Settings::try_from(settings) {
+        Ok(s) => RestoredNumbers::from(nv_p16_to_rgb::to_rgb(s, frame, luma, chroma, rgb)),
+        Err(unnamed) => RestoredNumbers::from(unnamed),
     }
 }

@@ -1,11 +1,11 @@
-// Which pixels a chroma pair is made of: its first column and row, and whether it has a second of each; and the mean of a block.
+// Which pixels a chroma pair is made of: its first column and row, and whether it has a second of each.
 #![tactic(auto)]
 
 ghost use Rattle.std.specs.Prelude.{◌≡◌, ◌≤◌, ◌<◌};
 ghost use Rattle.rules.specs.Blocks.{pair_over, chroma_row_over, chroma_width, chroma_height};
 ghost use Rattle.blocks.specs.Tiles.{paired, left_of, wide_at, second_of, top_of, two_at};
 
-use rules::YuvChromaSubsampling;
+use rules::YuvChromaSubsampling::{self, Yuv420, Yuv422, Yuv444};
 
 // Chroma elements in a row.
 pub fn chroma_width(subsampling: YuvChromaSubsampling, width: usize) -> usize
@@ -13,9 +13,8 @@ pub fn chroma_width(subsampling: YuvChromaSubsampling, width: usize) -> usize
     ensures { result ≡ chroma_width subsampling width }
 {
     match subsampling {
-        YuvChromaSubsampling::Yuv420 => 2 * ((width + 1) / 2),
-        YuvChromaSubsampling::Yuv422 => 2 * ((width + 1) / 2),
-        YuvChromaSubsampling::Yuv444 => 2 * width,
+        Yuv420 | Yuv422 => 2 * ((width + 1) / 2),
+        Yuv444 => 2 * width,
     }
 }
 
@@ -25,9 +24,8 @@ pub fn chroma_height(subsampling: YuvChromaSubsampling, height: usize) -> usize
     ensures { result ≡ chroma_height subsampling height }
 {
     match subsampling {
-        YuvChromaSubsampling::Yuv420 => (height + 1) / 2,
-        YuvChromaSubsampling::Yuv422 => height,
-        YuvChromaSubsampling::Yuv444 => height,
+        Yuv420 => (height + 1) / 2,
+        Yuv422 | Yuv444 => height,
     }
 }
 
@@ -35,11 +33,7 @@ pub fn chroma_height(subsampling: YuvChromaSubsampling, height: usize) -> usize
 pub fn paired(subsampling: YuvChromaSubsampling) -> bool
     ensures { result ≡ paired subsampling }
 {
-    match subsampling {
-        YuvChromaSubsampling::Yuv420 => true,
-        YuvChromaSubsampling::Yuv422 => true,
-        YuvChromaSubsampling::Yuv444 => false,
-    }
+    matches!(subsampling, Yuv420 | Yuv422)
 }
 
 // The first column of a pair.
@@ -48,9 +42,8 @@ pub fn left(subsampling: YuvChromaSubsampling, pair: usize) -> usize
     ensures { result ≡ left_of subsampling pair }
 {
     match subsampling {
-        YuvChromaSubsampling::Yuv420 => 2 * pair,
-        YuvChromaSubsampling::Yuv422 => 2 * pair,
-        YuvChromaSubsampling::Yuv444 => pair,
+        Yuv420 | Yuv422 => 2 * pair,
+        Yuv444 => pair,
     }
 }
 
@@ -60,9 +53,8 @@ pub fn wide(subsampling: YuvChromaSubsampling, width: usize, x: usize) -> bool
     ensures { result ≡ wide_at subsampling width x }
 {
     match subsampling {
-        YuvChromaSubsampling::Yuv420 => x + 1 < width,
-        YuvChromaSubsampling::Yuv422 => x + 1 < width,
-        YuvChromaSubsampling::Yuv444 => false,
+        Yuv420 | Yuv422 => x + 1 < width,
+        Yuv444 => false,
     }
 }
 
@@ -72,9 +64,8 @@ pub fn top(subsampling: YuvChromaSubsampling, row: usize) -> usize
     ensures { result ≡ top_of subsampling row }
 {
     match subsampling {
-        YuvChromaSubsampling::Yuv420 => 2 * row,
-        YuvChromaSubsampling::Yuv422 => row,
-        YuvChromaSubsampling::Yuv444 => row,
+        Yuv420 => 2 * row,
+        Yuv422 | Yuv444 => row,
     }
 }
 
@@ -84,9 +75,8 @@ pub fn two(subsampling: YuvChromaSubsampling, height: usize, top: usize) -> bool
     ensures { result ≡ two_at subsampling height top }
 {
     match subsampling {
-        YuvChromaSubsampling::Yuv420 => top + 1 < height,
-        YuvChromaSubsampling::Yuv422 => false,
-        YuvChromaSubsampling::Yuv444 => false,
+        Yuv420 => top + 1 < height,
+        Yuv422 | Yuv444 => false,
     }
 }
 
@@ -95,9 +85,8 @@ pub fn pair_over(subsampling: YuvChromaSubsampling, x: usize) -> usize
     ensures { result ≡ pair_over subsampling x }
 {
     match subsampling {
-        YuvChromaSubsampling::Yuv420 => x / 2,
-        YuvChromaSubsampling::Yuv422 => x / 2,
-        YuvChromaSubsampling::Yuv444 => x,
+        Yuv420 | Yuv422 => x / 2,
+        Yuv444 => x,
     }
 }
 
@@ -106,9 +95,8 @@ pub fn chroma_row(subsampling: YuvChromaSubsampling, row: usize) -> usize
     ensures { result ≡ chroma_row_over subsampling row }
 {
     match subsampling {
-        YuvChromaSubsampling::Yuv420 => row / 2,
-        YuvChromaSubsampling::Yuv422 => row,
-        YuvChromaSubsampling::Yuv444 => row,
+        Yuv420 => row / 2,
+        Yuv422 | Yuv444 => row,
     }
 }
 

@@ -11,10 +11,8 @@ fn exchange_all(n: usize, row: &mut [u16])
     requires { n ≤ length row.old }
     ensures { Exchanged BigEndian n row.old row.new }
 {
-    let mut i = 0;
-    while i < n {
-        row[i] = storage::exchanged(YuvEndianness::BigEndian, row[i]);
-        i += 1;
+    for word in &mut row[..n] {
+        *word = word.swap_bytes();
     }
 }
 

@@ -5,7 +5,8 @@ use numbers::SettingsNumbers;
 use rules::{Frame, YuvBias};
 
 // Settings and a frame by numbers, whose window is last; the lengths of the buffers; a seed for the samples, 0 for document 01's row;
-// and one sample put at an index.
+// and one sample put at an index, where a buffer has it. Kinds stand here by numbers, as in SettingsNumbers, which C's callers fill: a
+// program also tries numbers that name no kind. What stands for none is a number too, since a case is printed as its numbers.
 #[derive(Clone, Copy)]
 pub struct Case {
     pub depth: u32,
@@ -71,63 +72,56 @@ pub const ZERO_PAIR: u32 = 55;
 pub const FORMER_PAIR: u32 = 54;
 
 fn pair_of(matrix: u32) -> YuvBias {
-    if matrix == ZERO_PAIR {
-        return YuvBias {
-            kr: 0.0f32,
-            kb: 0.0f32,
-        };
-    }
-    if matrix == FORMER_PAIR {
-        return YuvBias {
-            kr: 0.222f32,
-            kb: 0.0713f32,
-        };
-    }
-    YuvBias {
-        kr: 0.25f32,
-        kb: 0.125f32,
-    }
+    let (kr, kb) = match matrix {
+        ZERO_PAIR => (0.0, 0.0),
+        FORMER_PAIR => (0.222, 0.0713),
+        _ => (0.25, 0.125),
+    };
+    YuvBias { kr, kb }
 }
 
 fn matrix_of(matrix: u32) -> u32 {
     match matrix {
-        ZERO_PAIR => 5,
-        FORMER_PAIR => 5,
+        ZERO_PAIR | FORMER_PAIR => 5,
         _ => matrix,
     }
 }
 
-pub fn settings_of(c: Case) -> SettingsNumbers
-    ensures { (result.depth ≡ c.depth) × (result.precision ≡ c.precision) }
-{
-    let pair = pair_of(c.matrix);
-    SettingsNumbers {
-        depth: c.depth,
-        precision: c.precision,
-        matrix: matrix_of(c.matrix),
-        kr: pair.kr,
-        kb: pair.kb,
-        range: c.range,
-        subsampling: c.subsampling,
-        order: c.order,
-        packing: c.packing,
-        byte_order: c.byte_order,
-        channels: c.channels,
+impl From<Case> for SettingsNumbers {
+    ghost from_gives = { λ c s. (s.depth ≡ c.depth) × (s.precision ≡ c.precision) };
+
+    fn from(c: Case) -> SettingsNumbers {
+        let pair = pair_of(c.matrix);
+        SettingsNumbers {
+            depth: c.depth,
+            precision: c.precision,
+            matrix: matrix_of(c.matrix),
+            kr: pair.kr,
+            kb: pair.kb,
+            range: c.range,
+            subsampling: c.subsampling,
+            order: c.order,
+            packing: c.packing,
+            byte_order: c.byte_order,
+            channels: c.channels,
+        }
     }
 }
 
-pub fn frame_of(c: Case) -> Frame
-    ensures { (result.width ≡ c.width) × (result.height ≡ c.height) }
-{
-    Frame {
-        width: c.width,
-        height: c.height,
-        source_stride: c.source_stride,
-        luma_stride: c.luma_stride,
-        chroma_stride: c.chroma_stride,
-        first_column: c.first_column,
-        first_row: c.first_row,
-        source_rows: c.source_rows,
+impl From<Case> for Frame {
+    ghost from_gives = { λ c f. (f.width ≡ c.width) × (f.height ≡ c.height) };
+
+    fn from(c: Case) -> Frame {
+        Frame {
+            width: c.width,
+            height: c.height,
+            source_stride: c.source_stride,
+            luma_stride: c.luma_stride,
+            chroma_stride: c.chroma_stride,
+            first_column: c.first_column,
+            first_row: c.first_row,
+            source_rows: c.source_rows,
+        }
     }
 }
 
@@ -137,8 +131,7 @@ pub fn first_element(channels: u32, column: usize) -> usize
     ensures { result ≤ 4 * column }
 {
     match channels {
-        1 => 4 * column,
-        2 => 4 * column,
+        1 | 2 => 4 * column,
         _ => 3 * column,
     }
 }
@@ -150,7 +143,7 @@ pub fn chroma_width(subsampling: u32, width: usize) -> usize
     if subsampling == 2 {
         2 * width
     } else {
-        (width + 1) / 2 * 2
+        width.div_ceil(2) * 2
     }
 }
 
@@ -159,7 +152,7 @@ pub fn chroma_height(subsampling: u32, height: usize) -> usize
     ensures { result ≤ 20001 }
 {
     if subsampling == 0 {
-        (height + 1) / 2
+        height.div_ceil(2)
     } else {
         height
     }
@@ -178,17 +171,21 @@ pub fn laid(c: Case, width: usize, height: usize, pad: usize) -> Case
     requires { (width ≤ 20000) × (height ≤ 20000) × (pad ≤ 9) }
     ensures { (result.width ≡ width) × (result.height ≡ height) × (result.luma ≡ (width + pad) * height) }
 {
-    let mut d = c;
-    d.width = width;
-    d.height = height;
-    d.source_rows = height;
-    d.source_stride = first_element(c.channels, width) + pad;
-    d.luma_stride = width + pad;
-    d.chroma_stride = chroma_width(c.subsampling, width) + pad;
-    d.source = area(d.source_stride, height);
-    d.luma = area(d.luma_stride, height);
-    d.chroma = area(d.chroma_stride, chroma_height(c.subsampling, height));
-    d
+    let source_stride = first_element(c.channels, width) + pad;
+    let luma_stride = width + pad;
+    let chroma_stride = chroma_width(c.subsampling, width) + pad;
+    Case {
+        width,
+        height,
+        source_stride,
+        luma_stride,
+        chroma_stride,
+        source: area(source_stride, height),
+        luma: area(luma_stride, height),
+        chroma: area(chroma_stride, chroma_height(c.subsampling, height)),
+        source_rows: height,
+        ..c
+    }
 }
 
 // A frame of that size as a window on a larger source: so many columns lie left and right of it, and so many rows above and below it.
@@ -197,11 +194,14 @@ pub fn windowed(c: Case, left: usize, right: usize, above: usize, below: usize, 
     requires left_bound { (left ≤ 64) × (right ≤ 64) × (above ≤ 64) × (below ≤ 64) × (pad ≤ 9) }
     ensures { (result.width ≡ c.width) × (result.height ≡ c.height) }
 {
-    let mut d = c;
-    d.first_column = left;
-    d.first_row = above;
-    d.source_rows = above + c.height + below;
-    d.source_stride = first_element(c.channels, left + c.width + right) + pad;
-    d.source = area(d.source_stride, d.source_rows);
-    d
+    let source_rows = above + c.height + below;
+    let source_stride = first_element(c.channels, left + c.width + right) + pad;
+    Case {
+        source_stride,
+        source: area(source_stride, source_rows),
+        first_column: left,
+        first_row: above,
+        source_rows,
+        ..c
+    }
 }

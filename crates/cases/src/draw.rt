@@ -2,6 +2,7 @@
 ghost use Rattle.std.specs.Prelude.{◌≡◌, ◌≤◌, ◌<◌, length};
 
 use crate::case::Case;
+use crate::planes;
 
 // The next number of the sequence that samples are drawn from.
 fn next(x: u32) -> u32
@@ -26,17 +27,12 @@ fn most_of(depth: u32) -> u32
     ensures { result ≤ 65535 }
 {
     match depth {
-        11 => 2047,
-        12 => 4095,
-        13 => 8191,
-        14 => 16383,
-        15 => 32767,
-        16 => 65535,
+        11..=16 => (1 << depth) - 1,
         _ => 1023,
     }
 }
 
-// A sample from 0 to m.
+// A sample from 0 to m. `as` loses nothing of a remainder of 65536, where `try_from` would give a Result.
 fn sample_of(m: u32, x: u32) -> u16
     requires { m ≤ 65535 }
 {
@@ -50,13 +46,7 @@ const ROW: [u16; 9] = [1023, 0, 0, 0, 0, 1023, 1023, 1023, 1023];
 fn rows() -> Room
     ensures { 65540 ≡ length result }
 {
-    let mut source = room(0);
-    let mut i = 0;
-    while i < 65540 {
-        source[i] = ROW[i % 9];
-        i += 1;
-    }
-    source
+    std::array::from_fn(|i| ROW[i % 9])
 }
 
 // Samples of a depth, drawn from a sequence.
@@ -66,11 +56,9 @@ fn samples(depth: u32, seed: u32) -> Room
     let m = most_of(depth);
     let mut source = room(0);
     let mut x = seed % 65537;
-    let mut i = 0;
-    while i < 65540 {
+    for sample in &mut source {
         x = next(x);
-        source[i] = sample_of(m, x);
-        i += 1;
+        *sample = sample_of(m, x);
     }
     source
 }
@@ -88,24 +76,14 @@ fn drawn(c: Case) -> Room
 pub fn source_of(c: Case) -> Room
     ensures { 65540 ≡ length result }
 {
-    let at = c.at;
     let mut source = drawn(c);
-    if at < 65540 {
-        source[at] = c.sample;
-    }
+    planes::put(&mut source, c.at, c.sample);
     source
-}
-
-// The smaller of two lengths.
-pub fn least(a: usize, b: usize) -> usize
-    ensures { result ≤ b }
-{
-    if a < b { a } else { b }
 }
 
 // A length, or that of the room where it is greater.
 pub fn within_room(length: usize) -> usize
     ensures { result ≤ 65540 }
 {
-    least(length, 65540)
+    length.min(65540)
 }

@@ -1,5 +1,5 @@
 // One element of a plane.
-ghost use Rattle.std.specs.Prelude.{◌≡◌, ◌<◌, ◌≤◌, length, get_or};
+ghost use Rattle.std.specs.Prelude.{◌≡◌, ◌*◌, ◌<◌, ◌≤◌, length, get_or};
 
 use crate::draw::Room;
 
@@ -7,7 +7,7 @@ use crate::draw::Room;
 pub fn put(plane: &mut Room, at: usize, v: u16)
     ensures { length plane.new ≡ length plane.old }
 {
-    if at < 65540 {
+    if at < plane.len() {
         plane[at] = v;
     }
 }
@@ -16,24 +16,13 @@ pub fn put(plane: &mut Room, at: usize, v: u16)
 pub fn get(plane: &Room, at: usize) -> u16
     ensures { at < 65540 → result ≡ get_or plane.now at 0 }
 {
-    if at < 65540 {
-        return plane[at];
-    }
-    0
+    plane.get(at).copied().unwrap_or(0)
 }
 
 // The index at which one of the first 32 rows starts.
-fn from(stride: usize, row: usize) -> usize
-    requires { row ≤ 32 }
-    ensures { result ≤ 2097152 }
-{
-    stride % 65536 * row
-}
-
-// The index at which one of the first 8 rows starts.
 pub fn start(stride: usize, row: usize) -> usize
-    requires { row ≤ 8 }
-    ensures { result ≤ 524288 }
+    requires { row ≤ 32 }
+    ensures { result ≤ 65536 * row }
 {
     stride % 65536 * row
 }
@@ -43,5 +32,5 @@ pub fn index(stride: usize, row: usize, element: usize) -> usize
     requires { (row ≤ 32) × (element ≤ 65536) }
     ensures { result ≤ 2162688 }
 {
-    from(stride, row) + element
+    start(stride, row) + element
 }

@@ -1,4 +1,5 @@
-// Cases that sweep through the settings, each by its number.
+// Cases that sweep through the settings, each by its number, which is small: `as u32` loses nothing of it, and `try_from` would give a
+// Result that is never an Err.
 ghost use Rattle.std.specs.Prelude.{◌≡◌, ◌<◌, ◌≤◌};
 
 use crate::case;
@@ -9,16 +10,19 @@ pub fn size(t: usize) -> Case
     requires { t < 75 }
     ensures { (result.width ≤ 5) × (result.height ≤ 5) }
 {
-    let mut c = case::base();
-    c.depth = 10 + (t % 7) as u32;
-    c.matrix = (t % 6) as u32;
-    c.range = (t / 2 % 2) as u32;
-    c.subsampling = (t / 25) as u32;
-    c.order = (t / 3 % 2) as u32;
-    c.packing = (t / 4 % 2) as u32;
-    c.byte_order = (t / 5 % 2) as u32;
-    c.channels = (t % 4) as u32;
-    c.seed = (t + 10) as u32;
+    let n = t as u32;
+    let c = Case {
+        depth: 10 + n % 7,
+        matrix: n % 6,
+        range: n / 2 % 2,
+        subsampling: n / 25,
+        order: n / 3 % 2,
+        packing: n / 4 % 2,
+        byte_order: n / 5 % 2,
+        channels: n % 4,
+        seed: n + 10,
+        ..case::base()
+    };
     case::laid(c, 1 + t % 5, 1 + t / 5 % 5, t % 3)
 }
 
@@ -27,14 +31,17 @@ pub fn layout(t: usize) -> Case
     requires { t < 192 }
     ensures { (result.width ≡ 3) × (result.height ≡ 3) }
 {
-    let mut c = case::base();
-    c.range = (t % 2) as u32;
-    c.order = (t / 2 % 2) as u32;
-    c.packing = (t / 4 % 2) as u32;
-    c.byte_order = (t / 8 % 2) as u32;
-    c.channels = (t / 16 % 4) as u32;
-    c.subsampling = (t / 64) as u32;
-    c.seed = (t + 100) as u32;
+    let n = t as u32;
+    let c = Case {
+        range: n % 2,
+        order: n / 2 % 2,
+        packing: n / 4 % 2,
+        byte_order: n / 8 % 2,
+        channels: n / 16 % 4,
+        subsampling: n / 64,
+        seed: n + 100,
+        ..case::base()
+    };
     case::laid(c, 3, 3, 1)
 }
 
@@ -43,11 +50,14 @@ pub fn depth(t: usize) -> Case
     requires { t < 182 }
     ensures { (result.width ≡ 2) × (result.height ≡ 2) }
 {
-    let mut c = case::base();
-    c.depth = 10 + (t % 7) as u32;
-    c.precision = 1 + (t / 7 % 13) as u32;
-    c.range = (t / 91) as u32;
-    c.matrix = 1;
-    c.seed = (t + 300) as u32;
+    let n = t as u32;
+    let c = Case {
+        depth: 10 + n % 7,
+        precision: 1 + n / 7 % 13,
+        range: n / 91,
+        matrix: 1,
+        seed: n + 300,
+        ..case::base()
+    };
     case::laid(c, 2, 2, 0)
 }

@@ -1,10 +1,13 @@
-// Lines of text on standard output: each function hands back how many numbers its line has.
+// Lines of text on standard output: each function hands back how many numbers its line has. They go by the kit's io, which gives no error:
+// std's println! gives a Result, and none of these functions can fail.
 ghost use Rattle.std.specs.Prelude.{◌≡◌, ◌≤◌, ◌<◌, length};
 
 use crate::case::Case;
 use crate::draw::{Room, within_room};
-use answer_numbers::{CheckedNumbers, ConvertedNumbers, RestoredNumbers, RingNumbers};
-use rules::SourcePlace;
+use answer_numbers::{
+    CheckedNumbers, ConvertedNumbers, RestoredNumbers, RingNumbers, SettledNumbers,
+};
+use rules::{SourcePlace, Weights};
 
 const STANDARD_OUTPUT: i32 = 1;
 
@@ -12,6 +15,7 @@ fn put(text: &[u8]) {
     io::write_all(STANDARD_OUTPUT, text);
 }
 
+// `as`, since no `From` takes a usize to a u64.
 fn put_number(n: usize) {
     put(b" ");
     io::print_decimal(STANDARD_OUTPUT, n as u64);
@@ -22,20 +26,14 @@ pub fn line(name: &[u8], numbers: &[usize]) -> usize
     ensures { result ≡ length numbers.now }
 {
     put(name);
-    let mut i = 0;
-    while i < numbers.len() {
-        put_number(numbers[i]);
-        i += 1;
+    for &n in numbers {
+        put_number(n);
     }
     put(b"\n");
-    i
+    numbers.len()
 }
 
-fn wide(v: u16) -> usize {
-    v as usize
-}
-
-// A number of 32 bits.
+// A number of 32 bits. `as`, since no `From` takes a u32 to a usize.
 pub fn small(n: u32) -> usize
     ensures { result ≡ n }
 {
@@ -66,7 +64,7 @@ pub fn case(c: Case) -> usize
         c.chroma,
         small(c.seed),
         c.at,
-        small(c.sample as u32),
+        usize::from(c.sample),
     ];
     line(b"case", &numbers)
 }
@@ -86,6 +84,31 @@ fn refusal(name: &[u8], number: u32, p: SourcePlace) -> usize
         return line(name, &[10, small(p.row), small(p.pixel), small(p.channel)]);
     }
     line(name, &[small(number)])
+}
+
+// The nine weights, with no name and no line's end.
+pub fn weights(w: Weights) -> usize
+    ensures { result ≡ 9 }
+{
+    let weights = [
+        w.yr, w.yg, w.yb, w.cb_r, w.cb_g, w.cb_b, w.cr_r, w.cr_g, w.cr_b,
+    ];
+    for weight in weights {
+        put(if weight < 0 { b" -" } else { b" " });
+        io::print_decimal(STANDARD_OUTPUT, u64::from(weight.unsigned_abs()));
+    }
+    weights.len()
+}
+
+// Settle's answer, all its numbers.
+pub fn settled(t: SettledNumbers) -> usize
+    ensures { result ≡ 10 }
+{
+    put(b"settled");
+    put_number(small(t.refusal));
+    let n = weights(t.weights);
+    put(b"\n");
+    1 + n
 }
 
 // Convert's answer.
@@ -149,42 +172,20 @@ pub fn mixed(sum: u32, n: u32) -> u32
     (sum % 65521 * 31 + n % 65536 + 1) % 65521
 }
 
-fn mixed_word(sum: u32, v: u16) -> u32 {
-    mixed(sum, v as u32)
+fn checksum(elements: &[u16]) -> u32 {
+    elements.iter().fold(0, |sum, &v| mixed(sum, u32::from(v)))
 }
 
-fn checksum(plane: &Room, length: usize) -> u32
-    requires { length ≤ 65540 }
-{
-    let mut sum = 0;
-    let mut i = 0;
-    while i < length {
-        sum = mixed_word(sum, plane[i]);
-        i += 1;
-    }
-    sum
-}
-
-fn put_elements(plane: &Room, length: usize)
-    requires { length ≤ 65540 }
-{
-    let mut i = 0;
-    while i < length {
-        put_number(wide(plane[i]));
-        i += 1;
-    }
-}
-
-// The first elements of a plane, or their checksum where they are many.
-fn plane(name: &[u8], plane: &Room, length: usize)
-    requires { length ≤ 65540 }
-{
+// The elements of a plane, or their checksum where they are many.
+fn plane(name: &[u8], elements: &[u16]) {
     put(name);
-    if length <= 256 {
-        put_elements(plane, length);
+    if elements.len() <= 256 {
+        for &v in elements {
+            put_number(usize::from(v));
+        }
     } else {
         put(b" sum");
-        put_number(small(checksum(plane, length)));
+        put_number(small(checksum(elements)));
     }
     put(b"\n");
 }
@@ -194,8 +195,8 @@ pub fn planes(c: Case, luma: &Room, chroma: &Room) -> usize
     ensures { result ≤ 65540 }
 {
     let m = within_room(c.luma);
-    plane(b"luma", luma, m);
-    plane(b"chroma", chroma, within_room(c.chroma));
+    plane(b"luma", &luma[..m]);
+    plane(b"chroma", &chroma[..within_room(c.chroma)]);
     m
 }
 
@@ -204,6 +205,6 @@ pub fn rgb(c: Case, buffer: &Room) -> usize
     ensures { result ≤ 65540 }
 {
     let n = within_room(c.source);
-    plane(b"rgb", buffer, n);
+    plane(b"rgb", &buffer[..n]);
     n
 }

@@ -7,34 +7,19 @@ pub mod spot;
 
 use answer_numbers::CheckedNumbers;
 use cases::case::Case;
-use cases::draw::{Room, least};
-use cases::{case, text};
-
-fn check_parts(c: Case, source: &[u16], luma: &[u16], chroma: &[u16]) -> CheckedNumbers
-    ensures { (result.refusal ≤ 18) × (result.wrong ≤ 1) }
-{
-    ayresokum::ayresokum_check(
-        case::settings_of(c),
-        case::frame_of(c),
-        source,
-        luma,
-        chroma,
-    )
-}
-
-fn check_first(c: Case, source: &[u16], luma: &[u16], chroma: &[u16]) -> CheckedNumbers
-    ensures { (result.refusal ≤ 18) × (result.wrong ≤ 1) }
-{
-    let n = least(c.source, source.len());
-    let m = least(c.luma, luma.len());
-    let k = least(c.chroma, chroma.len());
-    check_parts(c, &source[..n], &luma[..m], &chroma[..k])
-}
+use cases::draw::{Room, within_room};
+use cases::text;
 
 pub fn check(c: Case, source: &Room, luma: &Room, chroma: &Room) -> CheckedNumbers
     ensures { (result.refusal ≤ 18) × (result.wrong ≤ 1) }
 {
-    check_first(c, source, luma, chroma)
+    ayresokum::ayresokum_check(
+        c.into(),
+        c.into(),
+        &source[..within_room(c.source)],
+        &luma[..within_room(c.luma)],
+        &chroma[..within_room(c.chroma)],
+    )
 }
 
 // Checks and prints the answer; hands back how many numbers it has.

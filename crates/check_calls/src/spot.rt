@@ -1,54 +1,43 @@
 // One place of a plane: a word put there, and what the check then says.
-ghost use Rattle.std.specs.Prelude.{◌≡◌, ◌≤◌, length};
+ghost use Rattle.std.specs.Prelude.{◌≡◌, ◌≤◌, ◌↔◌, IsTrue, length};
 
 use answer_numbers::CheckedNumbers;
 use cases::case::Case;
 use cases::draw::Room;
 use cases::planes::{get, put};
+use rules::Place;
 
-// A place, and its index in its plane.
+// A place of a plane, and its index in the plane's buffer.
 #[derive(Clone, Copy)]
 pub struct Spot {
-    pub plane: u32,
-    pub row: u32,
-    pub element: u32,
+    pub place: Place,
     pub at: usize,
 }
 
 pub fn spot_at(plane: u32, row: u32, element: u32, at: usize) -> Spot
-    ensures { (result.plane ≡ plane) × (result.at ≡ at) }
+    ensures { (result.place.plane ≡ plane) × (result.at ≡ at) }
 {
     Spot {
-        plane,
-        row,
-        element,
+        place: Place {
+            plane,
+            row,
+            element,
+        },
         at,
     }
 }
 
-fn names(t: CheckedNumbers, spot: Spot) -> bool {
-    let p = t.place;
-    t.refusal == 0
-        && t.wrong == 1
-        && p.plane == spot.plane
-        && p.row == spot.row
-        && p.element == spot.element
-}
-
-// 1 where an answer names this very place, 0 where not.
-pub fn named(t: CheckedNumbers, spot: Spot) -> usize
-    ensures { result ≤ 1 }
+// Whether an answer names this very place.
+pub fn named(t: CheckedNumbers, spot: Spot) -> bool
+    ensures { IsTrue result ↔ ((t.refusal ≡ 0) × (t.wrong ≡ 1) × (t.place ≡ spot.place)) }
 {
-    if names(t, spot) {
-        return 1;
-    }
-    0
+    t.refusal == 0 && t.wrong == 1 && t.place == spot.place
 }
 
 pub fn get_word(luma: &Room, chroma: &Room, spot: Spot) -> u16
     ensures { result ≤ 65535 }
 {
-    if spot.plane == 0 {
+    if spot.place.plane == 0 {
         return get(luma, spot.at);
     }
     get(chroma, spot.at)
@@ -57,7 +46,7 @@ pub fn get_word(luma: &Room, chroma: &Room, spot: Spot) -> u16
 pub fn put_word(luma: &mut Room, chroma: &mut Room, spot: Spot, v: u16)
     ensures { length luma.new ≡ length luma.old }
 {
-    if spot.plane == 0 {
+    if spot.place.plane == 0 {
         put(luma, spot.at, v);
     } else {
         put(chroma, spot.at, v);

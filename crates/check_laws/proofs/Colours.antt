@@ -11,15 +11,14 @@ use Rattle.rules.specs.declared.Named.{Named}
 use Rattle.rules.specs.declared.Matrix.{Matrix}
 use Rattle.rules.specs.declared.Matrix.TheVariants.{Tabled, Own}
 use Rattle.rules.specs.declared.Component.TheVariants.{Y, Cb, Cr}
-use Rattle.rules.specs.declared.Checked.{Checked}
 use Rattle.rules.specs.Channels.{Picture, is_u}
 use Rattle.rules.specs.Matrices.{matrix_of}
 use Rattle.rules.specs.Blocks.{chroma_width, chroma_height}
 use Rattle.rules.specs.Refusals.{Line, first}
 use Rattle.rules.specs.Search.{first_failing}
-use Rattle.rules.specs.Answers.{answer, checked_answer}
+use Rattle.rules.specs.Answers.{answer, checked_answer, Checked}
 use Rattle.rules.specs.Settle.{settle_lines}
-use Rattle.rules.specs.Check.{right, luma_test, chroma_test, custom_line, first_place, judged, judged_by, check}
+use Rattle.rules.specs.Check.{right, luma_test, chroma_test, custom_line, first_place, judged_by, check}
 use Rattle.rule_laws.proofs.Answers.{one_checked}
 use Rattle.plane_laws.proofs.Searches.{same_search}
 use Rattle.frames.specs.Sources.{SameColours, SamePicture}

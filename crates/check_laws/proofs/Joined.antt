@@ -1,4 +1,5 @@
 -- What check is to answer, by what its lines come to. Assumes nothing.
+use Rattle.std.proofs.Common.{None}
 use mathlib.Core.Path.{◌≡◌, sym, ap, ◌∙◌}
 use mathlib.Core.List.{List, []}
 use Prim.Native.Nat.{ℕ}
@@ -9,11 +10,9 @@ use Rattle.rules.specs.declared.Named.{Named}
 use Rattle.rules.specs.declared.Matrix.{Matrix}
 use Rattle.rules.specs.declared.Matrix.TheVariants.{Tabled}
 use Rattle.rules.specs.declared.Place.{Place}
-use Rattle.rules.specs.declared.Search.{Search}
-use Rattle.rules.specs.declared.Search.TheVariants.{Nothing, At}
 use Rattle.rules.specs.Matrices.{matrix_of}
 use Rattle.rules.specs.Refusals.{place_values, Line}
-use Rattle.rules.specs.Search.{first_values}
+use Rattle.rules.specs.Search.{first_values, Search, found_at}
 use Rattle.rules.specs.Answers.{Answer, given, answer}
 use Rattle.rules.specs.Frames.{shown}
 use Rattle.rules.specs.Check.{first_place, judged, judged_by, judgement}
@@ -36,24 +35,24 @@ placed_values e = λ i. place_values (e.0 i) (e.1 i) (e.2 i)
 pub placed : {p : Place} {plane row element : ℕ} → (p.plane ≡ plane) × (p.row ≡ row) × (p.element ≡ element) → given (place_values p.plane p.row p.element) ≡ given (place_values plane row element)
 placed e = λ i. given (placed_values e i)
 
-pub luma_wrong : (c : Search) {y : Search} {row element : ℕ} → y ≡ At row element → given (place_values 0 row element) ≡ first_place y c
+pub luma_wrong : (c : Search) {y : Search} {row element : ℕ} → y ≡ found_at row element → given (place_values 0 row element) ≡ first_place y c
 luma_wrong c e = sym (ap (λ (x : Search). first_place x c) e)
 
 module _ {y c : Search} where
-  pub chroma_wrong : {row element : ℕ} → y ≡ Nothing → c ≡ At row element → given (place_values 1 row element) ≡ first_place y c
+  pub chroma_wrong : {row element : ℕ} → y ≡ None → c ≡ found_at row element → given (place_values 1 row element) ≡ first_place y c
   chroma_wrong e f = sym (λ i. first_place (e i) (f i))
 
-  pub both_right : y ≡ Nothing → c ≡ Nothing → given [] ≡ first_place y c
+  pub both_right : y ≡ None → c ≡ None → given [] ≡ first_place y c
   both_right e f = sym (λ i. first_place (e i) (f i))
 
 -- ---- the same of values alone, as a line of the table carries them
 
-pub luma_found : (c : Search) {y : Search} {row element : ℕ} → y ≡ At row element → place_values 0 row element ≡ first_values y c
+pub luma_found : (c : Search) {y : Search} {row element : ℕ} → y ≡ found_at row element → place_values 0 row element ≡ first_values y c
 luma_found c e = sym (ap (λ (x : Search). first_values x c) e)
 
 module _ {y c : Search} where
-  pub chroma_found : {row element : ℕ} → y ≡ Nothing → c ≡ At row element → place_values 1 row element ≡ first_values y c
+  pub chroma_found : {row element : ℕ} → y ≡ None → c ≡ found_at row element → place_values 1 row element ≡ first_values y c
   chroma_found e f = sym (λ i. first_values (e i) (f i))
 
-  pub none_found : y ≡ Nothing → c ≡ Nothing → ◌≡◌ {A = List ℤ} [] (first_values y c)
+  pub none_found : y ≡ None → c ≡ None → ◌≡◌ {A = List ℤ} [] (first_values y c)
   none_found e f = sym (λ i. first_values (e i) (f i))

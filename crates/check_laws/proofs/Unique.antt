@@ -1,5 +1,6 @@
 -- THE THEOREMS of check's promise: it admits one answer for any input; it accepts exactly when no visible sample is wrong, names a
 -- sample exactly when it is the first wrong one, and refuses exactly when a line of its table does. Assumes nothing.
+use Rattle.std.proofs.Common.{None, Some}
 use mathlib.Core.Path.{◌≡◌, refl, sym, ap, ◌∙◌}
 use mathlib.Core.Bool.{false, true≢false}
 use mathlib.Core.List.{List, []}
@@ -13,14 +14,11 @@ use Rattle.rules.specs.declared.Frame.{Frame}
 use Rattle.rules.specs.declared.Named.{Named}
 use Rattle.rules.specs.declared.Matrix.{Matrix}
 use Rattle.rules.specs.declared.Matrix.TheVariants.{Tabled, Own}
-use Rattle.rules.specs.declared.Checked.{Checked}
-use Rattle.rules.specs.declared.Search.{Search}
-use Rattle.rules.specs.declared.Search.TheVariants.{Nothing, At}
 use Rattle.rules.specs.Matrices.{matrix_of}
 use Rattle.rules.specs.Blocks.{chroma_width, chroma_height}
 use Rattle.rules.specs.Refusals.{place_values, Line, passes, refuses, first}
-use Rattle.rules.specs.Search.{Clean, FirstWrong, first_failing}
-use Rattle.rules.specs.Answers.{Answer, given, refused, answer, checked_answer}
+use Rattle.rules.specs.Search.{Clean, FirstWrong, first_failing, Search, found_at}
+use Rattle.rules.specs.Answers.{Answer, given, refused, answer, checked_answer, Checked}
 use Rattle.rules.specs.Settle.{settle_lines}
 use Rattle.rules.specs.Frames.{shown}
 use Rattle.rules.specs.Check.{luma_test, chroma_test, is_custom, check_lines, first_place, judged, judged_by, judgement, check}
@@ -41,32 +39,32 @@ how_many (given v) = length v
 how_many (refused n v) = 0
 
 module _ (y c : Search) where
-  nothing_named : first_place y c ≡ given [] → (y ≡ Nothing) × (c ≡ Nothing)
+  nothing_named : first_place y c ≡ given [] → (y ≡ None) × (c ≡ None)
   unfolding how_many
   nothing_named e = go y c (ap how_many e)
     where
-      go : (y c : Search) → how_many (first_place y c) ≡ 0 → (y ≡ Nothing) × (c ≡ Nothing)
-      go Nothing Nothing e = (refl, refl)
-      go Nothing (At r x) e = absurd (omega arith)
-      go (At r x) c e = absurd (omega arith)
+      go : (y c : Search) → how_many (first_place y c) ≡ 0 → (y ≡ None) × (c ≡ None)
+      go None None e = (refl, refl)
+      go None (Some p) e = absurd (omega arith)
+      go (Some p) c e = absurd (omega arith)
 
-  luma_named : (row element : ℕ) → first_place y c ≡ given (place_values 0 row element) → y ≡ At row element
+  luma_named : (row element : ℕ) → first_place y c ≡ given (place_values 0 row element) → y ≡ found_at row element
   unfolding how_many value_in
   luma_named row element e = go y c (ap how_many e) (ap (value_in 0) e) (ap (value_in 1) e) (ap (value_in 2) e)
     where
-      go : (y c : Search) → how_many (first_place y c) ≡ 3 → value_in 0 (first_place y c) ≡ 0 → value_in 1 (first_place y c) ≡ row → value_in 2 (first_place y c) ≡ element → y ≡ At row element
-      go Nothing Nothing n p r x = absurd (omega arith)
-      go Nothing (At a b) n p r x = absurd (omega arith)
-      go (At a b) c n p r x = λ i. At (r i) (x i)
+      go : (y c : Search) → how_many (first_place y c) ≡ 3 → value_in 0 (first_place y c) ≡ 0 → value_in 1 (first_place y c) ≡ row → value_in 2 (first_place y c) ≡ element → y ≡ found_at row element
+      go None None n p r x = absurd (omega arith)
+      go None (Some q) n p r x = absurd (omega arith)
+      go (Some q) c n p r x = λ i. found_at (r i) (x i)
 
-  chroma_named : (row element : ℕ) → first_place y c ≡ given (place_values 1 row element) → (y ≡ Nothing) × (c ≡ At row element)
+  chroma_named : (row element : ℕ) → first_place y c ≡ given (place_values 1 row element) → (y ≡ None) × (c ≡ found_at row element)
   unfolding how_many value_in
   chroma_named row element e = go y c (ap how_many e) (ap (value_in 0) e) (ap (value_in 1) e) (ap (value_in 2) e)
     where
-      go : (y c : Search) → how_many (first_place y c) ≡ 3 → value_in 0 (first_place y c) ≡ 1 → value_in 1 (first_place y c) ≡ row → value_in 2 (first_place y c) ≡ element → (y ≡ Nothing) × (c ≡ At row element)
-      go Nothing Nothing n p r x = absurd (omega arith)
-      go Nothing (At a b) n p r x = (refl, λ i. At (r i) (x i))
-      go (At a b) c n p r x = absurd (omega arith)
+      go : (y c : Search) → how_many (first_place y c) ≡ 3 → value_in 0 (first_place y c) ≡ 1 → value_in 1 (first_place y c) ≡ row → value_in 2 (first_place y c) ≡ element → (y ≡ None) × (c ≡ found_at row element)
+      go None None n p r x = absurd (omega arith)
+      go None (Some q) n p r x = (refl, λ i. found_at (r i) (x i))
+      go (Some q) c n p r x = absurd (omega arith)
 
 -- ---- where no refusal applies
 
@@ -120,9 +118,9 @@ module _ (s : Settings) (f : Frame) (source luma chroma : List ℕ) where
 
   -- by a row of the table of matrices nothing is refused
   unrefused : (y c : Search) (n : ℕ) (v : List ℤ) → first_place y c ≡ refused n v → ⊥
-  unrefused Nothing Nothing n v e = let z : ◌≡◌ {A = ℕ} 0 1 = cc in omega arith
-  unrefused Nothing (At a b) n v e = let z : ◌≡◌ {A = ℕ} 0 1 = cc in omega arith
-  unrefused (At a b) c n v e = let z : ◌≡◌ {A = ℕ} 0 1 = cc in omega arith
+  unrefused None None n v e = let z : ◌≡◌ {A = ℕ} 0 1 = cc in omega arith
+  unrefused None (Some p) n v e = let z : ◌≡◌ {A = ℕ} 0 1 = cc in omega arith
+  unrefused (Some p) c n v e = let z : ◌≡◌ {A = ℕ} 0 1 = cc in omega arith
 
   unrefusing : (n : ℕ) (v : List ℤ) (m : Matrix) → is_custom m ≡ false → judged_by m s f (shown s f source) luma chroma ≡ refused n v → ⊥
   unrefusing n v (Tabled k) c a =

@@ -7,6 +7,8 @@ ghost use Rattle.rule_laws.specs.Usable.{Reach};
 ghost use Rattle.tolerance_bounds.specs.Bound.{Scale};
 ghost use Rattle.check_limits.specs.Limits.{LimitOf, BlockLimitsOf, LimitsOf, limit_for, own_limit};
 
+pub mod judge;
+
 use fractions::value;
 use rules::{Named, Settings};
 use yuv_support::ranges;
@@ -51,10 +53,11 @@ fn block_limits_of(precision: u32, m: u32, own: u32) -> BlockLimits
     requires { (precision ≤ 13) × (m ≤ 65535) × (own ≤ 10000) }
     ensures { BlockLimitsOf precision m own result }
 {
-    let one = limit_of(precision, m, 1, value::chroma_under(own, 1, m));
-    let two = limit_of(precision, m, 2, value::chroma_under(own, 2, m));
-    let four = limit_of(precision, m, 2, value::chroma_under(own, 4, m));
-    BlockLimits { one, two, four }
+    BlockLimits {
+        one: limit_of(precision, m, 1, value::chroma_under(own, 1, m)),
+        two: limit_of(precision, m, 2, value::chroma_under(own, 2, m)),
+        four: limit_of(precision, m, 2, value::chroma_under(own, 4, m)),
+    }
 }
 
 // The limits for the settings and a row of the table of matrices.
@@ -64,47 +67,33 @@ pub fn limits_of(s: Settings, k: Named) -> SettingsLimits
     ensures { LimitsOf s k result }
 {
     let m = ranges::most(s.depth);
-    let range = s.range;
-    let g = ranges::get_yuv_range(s.depth, range);
-    let luma = limit_of(s.precision, m, 1, value::luma_under(m));
-    let cb = block_limits_of(s.precision, m, k.kb);
-    let cr = block_limits_of(s.precision, m, k.kr);
     SettingsLimits {
-        ranges: g,
-        luma,
-        cb,
-        cr,
+        ranges: ranges::get_yuv_range(s.depth, s.range),
+        luma: limit_of(s.precision, m, 1, value::luma_under(m)),
+        cb: block_limits_of(s.precision, m, k.kb),
+        cr: block_limits_of(s.precision, m, k.kr),
     }
 }
 
-// The limit of a block by whether it has a second column (`wide`) and a second row (`two`).
-fn limit_for(l: BlockLimits, wide: bool, two: bool) -> Limit
-    ensures { result ≡ limit_for l wide two }
-{
-    let of_one = l.one;
-    let of_two = l.two;
-    let of_four = l.four;
-    if wide {
-        if two {
-            return of_four;
+impl BlockLimits {
+    // The limit of a block by whether it has a second column (`wide`) and a second row (`two`): bools, as the definition takes them.
+    fn limit_for(self, wide: bool, two: bool) -> Limit
+        ensures { result ≡ limit_for self wide two }
+    {
+        match (wide, two) {
+            (false, false) => self.one,
+            (true, false) | (false, true) => self.two,
+            (true, true) => self.four,
         }
-        return of_two;
     }
-    if two {
-        return of_two;
-    }
-    of_one
 }
 
-// The limit of a block's Cb where `u` is true, of its Cr where it is false.
-pub fn own_limit(limits: SettingsLimits, u: bool, wide: bool, two: bool) -> Limit
-    ensures { result ≡ own_limit limits u wide two }
-{
-    let cb = limits.cb;
-    let cr = limits.cr;
-    if u {
-        limit_for(cb, wide, two)
-    } else {
-        limit_for(cr, wide, two)
+impl SettingsLimits {
+    // The limit of a block's Cb where `u` is true, of its Cr where it is false.
+    pub fn own_limit(self, u: bool, wide: bool, two: bool) -> Limit
+        ensures { result ≡ own_limit self u wide two }
+    {
+        let own = if u { self.cb } else { self.cr };
+        own.limit_for(wide, two)
     }
 }

@@ -32,8 +32,7 @@ fn halved_packed(
     requires convertible { Convertible s width rgba.now }
     ensures { PackedWritten s w width false rgba.now rgba.now luma.old luma.new chroma.old chroma.new }
 {
-    let subsampling = s.subsampling;
-    match subsampling {
+    match s.subsampling {
         YuvChromaSubsampling::Yuv420 => block_loop(s, w, width, luma, chroma, rgba, rgba),
         YuvChromaSubsampling::Yuv422 => paired_loop(s, w, width, luma, chroma, rgba),
         YuvChromaSubsampling::Yuv444 => single_loop(s, w, width, luma, chroma, rgba),
@@ -45,11 +44,9 @@ fn exchange_columns(s: Settings, width: usize, luma: &mut [u16], chroma: &mut [u
     requires { RowLengths s width (length luma.old) (length chroma.old) }
     ensures { ColumnsExchanged s width luma.old luma.new chroma.old chroma.new }
 {
-    let endianness = s.endianness;
-    let subsampling = s.subsampling;
     let columns = 2 * (width / 2);
-    exchange(endianness, columns, luma);
-    exchange(endianness, elements_over(subsampling, columns), chroma);
+    exchange(s.endianness, columns, luma);
+    exchange(s.endianness, elements_over(s.subsampling, columns), chroma);
 }
 
 // A luma row and a chroma row from one source row.
@@ -96,7 +93,6 @@ pub fn luma_columns(s: Settings, w: Weights, width: usize, luma: &mut [u16], rgb
     requires convertible { Convertible s width rgba.now }
     ensures { Begun (even_columns width) (luma_words s w rgba.now) luma.old luma.new }
 {
-    let endianness = s.endianness;
     luma_loop(s, w, width, luma, rgba);
-    exchange(endianness, 2 * (width / 2), luma);
+    exchange(s.endianness, 2 * (width / 2), luma);
 }

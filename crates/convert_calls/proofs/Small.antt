@@ -1,17 +1,13 @@
 -- The refusal of an answer of settle, of convert and of a ring is at most 18. Assumes nothing.
+use Rattle.std.proofs.Common.{Ok, Err}
+use Rattle.numbers.specs.Numbers.{Meant}
+use Rattle.rules.specs.Answers.{Settled}
+use Rattle.rules.specs.Refusals.{Verdict}
 use Prim.Native.Nat.{ℕ, ◌≤◌}
-use mathlib.Core.Path.{◌≡◌, subst⁻¹}
+use mathlib.Core.Path.{subst⁻¹}
 use mathlib.Core.List.{List}
 use lib.Dec.{lit≤}
 use Rattle.rules.specs.declared.Frame.{Frame}
-use Rattle.rules.specs.declared.Settled.{Settled}
-use Rattle.rules.specs.declared.Settled.TheVariants as settled
-use Rattle.rules.specs.declared.Converted.{Converted}
-use Rattle.rules.specs.declared.Converted.TheVariants as converted
-use Rattle.rules.specs.declared.Verdict.{Verdict}
-use Rattle.rules.specs.declared.Verdict.TheVariants.{Passes, Refuses}
-use Rattle.numbers.specs.declared.Meant.{Meant}
-use Rattle.numbers.specs.declared.Meant.TheVariants.{Nothing, These}
 use Rattle.answer_numbers.specs.declared.SettledNumbers.{SettledNumbers}
 use Rattle.answer_numbers.specs.declared.ConvertedNumbers.{ConvertedNumbers}
 use Rattle.answer_numbers.specs.declared.RingNumbers.{RingNumbers}
@@ -22,31 +18,31 @@ use Rattle.cases.proofs.SmallNumber.{small_number}
 -- ---- settle
 
 small_case_settled : (a : Settled) → (settled_numbers a).refusal ≤ 18
-small_case_settled (settled.Weighed w) = lit≤ tt
-small_case_settled (settled.Refused r) = small_number r
+small_case_settled (Ok w) = lit≤ tt
+small_case_settled (Err r) = small_number r
 
 pub small_settled : (m : Meant) (r : SettledNumbers) → SettleCall m r → r.refusal ≤ 18
-small_settled Nothing r e = subst⁻¹ (λ (x : SettledNumbers). x.refusal ≤ 18) e (lit≤ tt)
-small_settled (These s) r t = subst⁻¹ (λ (x : SettledNumbers). x.refusal ≤ 18) t.told (small_case_settled t.case)
+small_settled (Err u) r e = subst⁻¹ (λ (x : SettledNumbers). x.refusal ≤ 18) e (lit≤ tt)
+small_settled (Ok s) r t = subst⁻¹ (λ (x : SettledNumbers). x.refusal ≤ 18) t.told (small_case_settled t.case)
 
 -- ---- convert
 
-small_case_converted : (a : Converted) → (converted_numbers a).refusal ≤ 18
-small_case_converted converted.Done = lit≤ tt
-small_case_converted (converted.Refused r) = small_number r
+small_case_converted : (a : Verdict) → (converted_numbers a).refusal ≤ 18
+small_case_converted (Ok u) = lit≤ tt
+small_case_converted (Err r) = small_number r
 
 module _ (f : Frame) (source luma chroma : List ℕ) where
   pub small_converted : (m : Meant) (r : ConvertedNumbers) → ConvertCall m f source luma chroma r → r.refusal ≤ 18
-  small_converted Nothing r e = subst⁻¹ (λ (x : ConvertedNumbers). x.refusal ≤ 18) e (lit≤ tt)
-  small_converted (These s) r t = subst⁻¹ (λ (x : ConvertedNumbers). x.refusal ≤ 18) t.told (small_case_converted t.case)
+  small_converted (Err u) r e = subst⁻¹ (λ (x : ConvertedNumbers). x.refusal ≤ 18) e (lit≤ tt)
+  small_converted (Ok s) r t = subst⁻¹ (λ (x : ConvertedNumbers). x.refusal ≤ 18) t.told (small_case_converted t.case)
 
 -- ---- a ring of frames
 
 small_case_ringed : (written : ℕ) (ended : Verdict) → (ring_ended written ended).refusal ≤ 18
-small_case_ringed written Passes = lit≤ tt
-small_case_ringed written (Refuses r) = small_number r
+small_case_ringed written (Ok u) = lit≤ tt
+small_case_ringed written (Err r) = small_number r
 
 module _ (f : Frame) (count : ℕ) (source luma chroma : List ℕ) where
   pub small_ringed : (m : Meant) (r : RingNumbers) → RingCall m f count source luma chroma r → r.refusal ≤ 18
-  small_ringed Nothing r e = subst⁻¹ (λ (x : RingNumbers). x.refusal ≤ 18) e (lit≤ tt)
-  small_ringed (These s) r t = subst⁻¹ (λ (x : RingNumbers). x.refusal ≤ 18) t.told (small_case_ringed t.case.written t.case.ended)
+  small_ringed (Err u) r e = subst⁻¹ (λ (x : RingNumbers). x.refusal ≤ 18) e (lit≤ tt)
+  small_ringed (Ok s) r t = subst⁻¹ (λ (x : RingNumbers). x.refusal ≤ 18) t.told (small_case_ringed t.case.written t.case.ended)

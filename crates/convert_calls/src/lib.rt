@@ -1,4 +1,5 @@
-// The exported functions that settle and convert, called on a case: it lends the first elements of each buffer.
+// The exported functions that settle and convert, called on a case: it lends the first elements of each buffer. The buffers go apart, as
+// those functions take them: a struct of them would only be taken apart at each call.
 #![tactic(auto)]
 
 ghost use Rattle.std.specs.Prelude.{◌≤◌};
@@ -6,39 +7,23 @@ ghost use Rattle.std.specs.Prelude.{◌≤◌};
 pub mod rings;
 
 use answer_numbers::{ConvertedNumbers, SettledNumbers};
-use cases::case;
 use cases::case::Case;
-use cases::draw::{Room, least};
+use cases::draw::{Room, within_room};
 
 pub fn settle(c: Case) -> SettledNumbers
     ensures { result.refusal ≤ 18 }
 {
-    ayresokum::ayresokum_settle(case::settings_of(c))
-}
-
-fn convert_parts(c: Case, source: &[u16], luma: &mut [u16], chroma: &mut [u16]) -> ConvertedNumbers
-    ensures { result.refusal ≤ 18 }
-{
-    ayresokum::ayresokum_convert(
-        case::settings_of(c),
-        case::frame_of(c),
-        source,
-        luma,
-        chroma,
-    )
-}
-
-fn convert_first(c: Case, source: &[u16], luma: &mut [u16], chroma: &mut [u16]) -> ConvertedNumbers
-    ensures { result.refusal ≤ 18 }
-{
-    let n = least(c.source, source.len());
-    let m = least(c.luma, luma.len());
-    let k = least(c.chroma, chroma.len());
-    convert_parts(c, &source[..n], &mut luma[..m], &mut chroma[..k])
+    ayresokum::ayresokum_settle(c.into())
 }
 
 pub fn convert(c: Case, source: &Room, luma: &mut Room, chroma: &mut Room) -> ConvertedNumbers
     ensures { result.refusal ≤ 18 }
 {
-    convert_first(c, source, luma, chroma)
+    ayresokum::ayresokum_convert(
+        c.into(),
+        c.into(),
+        &source[..within_room(c.source)],
+        &mut luma[..within_room(c.luma)],
+        &mut chroma[..within_room(c.chroma)],
+    )
 }

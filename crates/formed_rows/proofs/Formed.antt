@@ -1,23 +1,16 @@
 -- Laws of the test of a row's words: it passes exactly when each word is well formed, and may be made word by word. Assumes nothing.
 use mathlib.Core.Path.{◌≡◌, refl, sym, ap, ◌∙◌}
-use mathlib.Core.Bool.{Bool, true, false, ◌&&◌}
+use mathlib.Core.Bool.{Bool, true, ◌&&◌}
 use mathlib.Core.Logic.{◌↔◌}
 use mathlib.Core.List.{List, [], ◌∷◌}
 use Prim.Native.Nat.{ℕ, zero, suc, ◌+◌, ◌<◌}
 use native.Mathlib.Omega.{arith}
+use Rattle.std.proofs.Math.Bool.{and_assoc, and-true}
 use lib.ListN.{length, get_or, drop}
 use lib.Seq.{drop-cons, drop-length}
 use Rattle.rules.specs.declared.Settings.{Settings}
 use Rattle.integer_laws.proofs.Tests.{both}
 use Rattle.formed_rows.specs.Formed.{is_formed, all_formed, AllFormed}
-
-and_true : (b : Bool) → (b && true) ≡ b
-and_true true = refl
-and_true false = refl
-
-and_assoc : (a b c : Bool) → ((a && b) && c) ≡ (a && (b && c))
-and_assoc true b c = refl
-and_assoc false b c = refl
 
 -- ---- word by word: what was found so far, and what is left
 module _ (s : Settings) (part : List ℕ) where
@@ -32,7 +25,7 @@ module _ (s : Settings) (part : List ℕ) where
 
   pub none_left : (so_far : Bool) → (so_far && all_formed s (drop (length part) part)) ≡ so_far
   unfolding all_formed
-  none_left so_far = ap (λ (vs : List ℕ). so_far && all_formed s vs) (drop-length part) ∙ and_true so_far
+  none_left so_far = ap (λ (vs : List ℕ). so_far && all_formed s vs) (drop-length part) ∙ and-true so_far
 
 -- ---- the test and the statement
 each_formed : (s : Settings) (part : List ℕ) → all_formed s part ≡ true → (e : ℕ) → e < length part → is_formed s (get_or part e 0) ≡ true

@@ -7,8 +7,7 @@ use native.Mathlib.Omega.{arith}
 use lib.ListN.{length, get_or, take, drop, length-take, length-drop}
 use lib.Seq.{get_or-take, get_or-drop}
 use Rattle.rules.specs.declared.Settings.{Settings}
-use Rattle.rules.specs.declared.Search.{Search}
-use Rattle.rules.specs.Search.{first_below, failing}
+use Rattle.rules.specs.Search.{first_below, failing, Search}
 use Rattle.rules.specs.ToRgb.{formed_test}
 use Rattle.plane_laws.proofs.Searches.{first_ext}
 use Rattle.formed_rows.specs.Formed.{is_formed}

@@ -8,26 +8,22 @@ ghost use Rattle.rule_laws.specs.Usable.{Reach};
 ghost use Rattle.formed_rows.specs.Formed.{is_formed};
 ghost use Rattle.frames.specs.Rows.{Rows};
 
-use rules::{Search, Settings};
+use rules::{Found, Settings};
 
 // The first word of a row that is not well formed; a row whose words all are is not searched.
-fn first_in_row(s: Settings, row: usize, part: &[u16]) -> Search
+fn first_in_row(s: Settings, row: usize, part: &[u16]) -> Option<Found>
     requires { Reach s }
     ensures { result ≡ first_below (length part.now) (λ e. failing (is_formed s (get_or part.now e 0)) row e) }
 {
     if formed_rows::all_formed(s, part) {
-        return Search::Nothing;
+        return None;
     }
-    let packing = s.packing;
-    let endianness = s.endianness;
-    let mut i = 0;
-    while i < part.len() {
-        if !storage::well_formed(packing, endianness, s.depth, part[i]) {
-            return Search::At(row, i);
+    for (element, &word) in part.iter().enumerate() {
+        if !storage::well_formed(s.packing, s.endianness, s.depth, word) {
+            return Some(Found { row, element });
         }
-        i += 1;
     }
-    Search::Nothing
+    None
 }
 
 // The same of a plane: `rows` rows of `wide` words, `stride` apart.
@@ -37,20 +33,17 @@ pub fn first_malformed(
     wide: usize,
     rows: usize,
     words: &[u16],
-) -> Search
+) -> Option<Found>
     requires reach { Reach s }
     requires rows { Rows (length words.now) stride wide rows }
     ensures { result ≡ first_failing (formed_test s stride words.now) wide rows }
 {
-    let mut row = 0;
-    while row < rows {
+    for row in 0..rows {
         let from = row * stride;
         let to = from + wide;
-        let found = first_in_row(s, row, &words[from..to]);
-        if let Search::At(r, e) = found {
-            return Search::At(r, e);
+        if let Some(found) = first_in_row(s, row, &words[from..to]) {
+            return Some(found);
         }
-        row += 1;
     }
-    Search::Nothing
+    None
 }

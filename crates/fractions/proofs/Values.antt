@@ -9,7 +9,6 @@ use Rattle.rules.specs.declared.Named.{Named}
 use Rattle.rules.specs.declared.Pixel.{Pixel}
 use Rattle.rules.specs.Fractions.{exact_luma}
 use Rattle.integer_laws.proofs.Differences.{is_pos, is_times, is_as, is_same, is_less}
-use Rattle.tolerance_laws.specs.Block.{two}
 use Rattle.tolerance_laws.specs.Chroma.{own_k, exact_chroma}
 use Rattle.fractions.specs.declared.Sums.{Sums}
 use Rattle.fractions.specs.Sums.{sums_of, luma_by, own_sum, chroma_by}

@@ -1,9 +1,9 @@
 // The exact values of luma, Cb and Cr, and their divisors.
 ghost use Rattle.std.specs.Prelude.{◌≡◌, [], ◌∷◌, ◌+◌, ◌-◌, ◌*◌, ◌≤◌};
 ghost use Rattle.fractions.specs.Exact.{Exactly};
-ghost use Rattle.fractions.specs.Sums.{blend, sums_of, luma_by, chroma_by, UpToFour, Modest};
+ghost use Rattle.fractions.specs.Sums.{blend, sums_of, luma_by, own_sum, chroma_by, UpToFour, Modest};
 
-use crate::block::sums_of_one;
+use crate::block::sums_of;
 use crate::{Exact, Sums};
 use rules::{Named, Pixel};
 
@@ -12,7 +12,7 @@ pub fn luma_under(m: u32) -> u64
     requires { m ≤ 65535 }
     ensures { (result ≡ 10000 * m) × (result ≤ 5242800000) }
 {
-    10000 * (m as u64)
+    10000 * u64::from(m)
 }
 
 // The divisor of the chroma of n pixels, by the K of the channel's own: Kb for Cb, Kr for Cr.
@@ -20,7 +20,7 @@ pub fn chroma_under(own: u32, n: u32, m: u32) -> u64
     requires { (own ≤ 10000) × (n ≤ 4) × (m ≤ 65535) }
     ensures { (result ≡ 2 * (10000 - own) * n * m) × (result ≤ 5242800000) }
 {
-    2 * ((10000 - own) as u64) * (n as u64) * (m as u64)
+    2 * u64::from(10000 - own) * u64::from(n) * u64::from(m)
 }
 
 // One K times one sum.
@@ -28,7 +28,7 @@ fn share(k: u32, sum: u32) -> u64
     requires { sum ≤ 262140 }
     ensures { (result ≡ k * sum) × (result ≤ k * 262140) }
 {
-    (k as u64) * (sum as u64)
+    u64::from(k) * u64::from(sum)
 }
 
 // S = Kr.SR + Kg.SG + Kb.SB.
@@ -45,40 +45,21 @@ fn ranged(x: u64, range: u32) -> u64
     requires { (x ≤ 2621400000) × (range ≤ 65535) }
     ensures { (result ≡ x * range) × (result ≤ 1000000000000000) }
 {
-    x * (range as u64)
+    x * u64::from(range)
 }
 
-// The exact chroma of a block with the channel sums s, by its divisor and the sum of the channel's own.
-fn exact_chroma(k: Named, bias: u32, range: u32, under: u64, own: u32, s: Sums) -> Exact
+// The exact Cb of a block with the channel sums s where `u` is true, its exact Cr where it is false, by its divisor.
+pub fn exact_chroma(u: bool, k: Named, bias: u32, range: u32, under: u64, s: Sums) -> Exact
     requires modest { Modest k bias range under }
     requires up_to_four { UpToFour s }
-    requires own_bound { own ≤ 262140 }
-    ensures { Exactly (chroma_by k bias range under own s) result }
+    ensures { Exactly (chroma_by k bias range under (own_sum u s) s) result }
 {
     Exact {
         bias,
-        plus: ranged(10000 * (own as u64), range),
+        plus: ranged(10000 * u64::from(s.own(u)), range),
         minus: ranged(blend(k, s), range),
         under,
     }
-}
-
-// The exact Cb: Cb's own channel is blue.
-pub fn exact_cb(k: Named, bias: u32, range: u32, under: u64, s: Sums) -> Exact
-    requires modest { Modest k bias range under }
-    requires up_to_four { UpToFour s }
-    ensures { Exactly (chroma_by k bias range under s.blue s) result }
-{
-    exact_chroma(k, bias, range, under, s.blue, s)
-}
-
-// The exact Cr: Cr's own channel is red.
-pub fn exact_cr(k: Named, bias: u32, range: u32, under: u64, s: Sums) -> Exact
-    requires modest { Modest k bias range under }
-    requires up_to_four { UpToFour s }
-    ensures { Exactly (chroma_by k bias range under s.red s) result }
-{
-    exact_chroma(k, bias, range, under, s.red, s)
 }
 
 // The exact luma of a pixel, by its divisor.
@@ -88,7 +69,7 @@ pub fn exact_luma(k: Named, bias: u32, range: u32, under: u64, p: Pixel) -> Exac
 {
     Exact {
         bias,
-        plus: ranged(blend(k, sums_of_one(p)), range),
+        plus: ranged(blend(k, sums_of([p])), range),
         minus: 0,
         under,
     }

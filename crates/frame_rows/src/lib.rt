@@ -27,9 +27,8 @@ fn turn(
     ensures luma_grows { LumaGrows s w f source.now (rows_over s.subsampling f.height row) (rows_over s.subsampling f.height (row + 1)) luma.old luma.new }
     ensures chroma_grows { ChromaGrows s w f source.now row (row + 1) chroma.old chroma.new }
 {
-    let subsampling = s.subsampling;
-    let top = blocks::top(subsampling, row);
-    let two = blocks::two(subsampling, f.height, top);
+    let top = blocks::top(s.subsampling, row);
+    let two = blocks::two(s.subsampling, f.height, top);
     lent_rows::lend_row(s, w, f, row, top, two, source, luma, chroma);
     if two {
         lent_rows::lend_luma_row(s, w, f, top + 1, chroma.len(), source, luma);
@@ -50,11 +49,7 @@ pub fn convert_rows(
     ensures luma_after { luma.new ≡ luma_written s w f (shown s f source.now) luma.old }
     ensures chroma_after { chroma.new ≡ chroma_written s w f (shown s f source.now) chroma.old }
 {
-    let subsampling = s.subsampling;
-    let rows = blocks::chroma_height(subsampling, f.height);
-    let mut row = 0;
-    while row < rows {
+    for row in 0..blocks::chroma_height(s.subsampling, f.height) {
         turn(s, w, f, row, source, luma, chroma);
-        row += 1;
     }
 }

@@ -1,4 +1,5 @@
-// Stride × rows: how many elements one frame has in the source and in each plane.
+// Stride × rows: how many elements one frame has in the source and in each plane. A `Frame` is what C hands in, so it cannot keep what the
+// tests before these found, and each function requires it.
 #![tactic(auto)]
 
 ghost use Rattle.std.specs.Prelude.{◌≡◌, ◌≤◌};
@@ -28,6 +29,5 @@ pub fn chroma_size(s: Settings, f: Frame) -> usize
     ensures value { result ≡ chroma_size s f }
     ensures upper_bound { result ≤ 1073741824 }
 {
-    let subsampling = s.subsampling;
-    blocks::chroma_height(subsampling, f.height) * f.chroma_stride
+    blocks::chroma_height(s.subsampling, f.height) * f.chroma_stride
 }

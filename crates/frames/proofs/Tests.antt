@@ -1,4 +1,6 @@
 -- What the tests of a frame leave. Assumes nothing.
+use Rattle.std.proofs.Common.{Ok, Err, None, Some}
+use Rattle.rules.specs.Search.{Search}
 use mathlib.Core.Path.{◌≡◌, refl, sym, ap, ◌∙◌}
 use mathlib.Core.List.{List}
 use mathlib.Core.Bool.{false, not, ◌||◌}
@@ -13,11 +15,7 @@ use Rattle.rules.specs.declared.Frame.{Frame}
 use Rattle.rules.specs.Ranges.{most}
 use Rattle.rules.specs.Channels.{Picture, count}
 use Rattle.rules.specs.Blocks.{chroma_width}
-use Rattle.rules.specs.Refusals.{passes, line_of, outside, first}
-use Rattle.rules.specs.declared.Verdict.{Verdict}
-use Rattle.rules.specs.declared.Verdict.TheVariants.{Passes, Refuses}
-use Rattle.rules.specs.declared.Search.{Search}
-use Rattle.rules.specs.declared.Search.TheVariants.{Nothing, At}
+use Rattle.rules.specs.Refusals.{passes, line_of, outside, first, Verdict}
 use Rattle.rules.specs.Frames.{size_off, window_off, stride_off, source_size, luma_size, chroma_size, length_off, shown, channel_of, colour_sample, low_test, too_large, place_line, frame_lines}
 use Rattle.rule_laws.proofs.Refusals.{bounds, passed, passed_by}
 use Rattle.plane_laws.proofs.Tests.{neither}
@@ -104,7 +102,7 @@ sample_of_lem px row x c h =
     let whole : (3 * x + c) / 3 ≡ x = omega arith in
     λ i. channel_of (rest i) (px row (whole i))
 
-pub low_picture : (m : ℕ) (f : Frame) (px : Picture) → too_large m f px ≡ Nothing → LowPicture m px f.width f.height
+pub low_picture : (m : ℕ) (f : Frame) (px : Picture) → too_large m f px ≡ None → LowPicture m px f.width f.height
 unfolding too_large
 low_picture m f px h =
     let clean = none_clean (low_test m px) (3 * f.width) f.height h in
@@ -118,9 +116,9 @@ low_picture m f px h =
     }
 
 -- a search whose line passes found nothing
-pub no_place : (x : Search) → place_line x ≡ passes → x ≡ Nothing
-no_place Nothing h = refl
-no_place (At row i) h = absurd (let z : ◌≡◌ {A = ℕ} 0 1 = cc in omega arith)
+pub no_place : (x : Search) → place_line x ≡ passes → x ≡ None
+no_place None h = refl
+no_place (Some p) h = absurd (let z : ◌≡◌ {A = ℕ} 0 1 = cc in omega arith)
 
 -- ---- a frame that no refusal meets can be converted
 pub ready : (s : Settings) (f : Frame) (source : List ℕ) (luma chroma : ℕ) → first (frame_lines s f source luma chroma) ≡ passes → Ready s f source luma chroma
@@ -138,5 +136,5 @@ ready s f source luma chroma h =
 
 -- so a verdict that says what these lines come to leaves a frame that can be converted, where it passes
 pub clear : (s : Settings) (f : Frame) (source : List ℕ) (luma chroma : ℕ) (r : Verdict) → line_of r ≡ first (frame_lines s f source luma chroma) → Clear s f source luma chroma r
-clear s f source luma chroma Passes h = ready s f source luma chroma (sym h)
-clear s f source luma chroma (Refuses n) h = tt
+clear s f source luma chroma (Ok u) h = ready s f source luma chroma (sym h)
+clear s f source luma chroma (Err n) h = tt

@@ -1,9 +1,8 @@
 -- What the tests of a frame leave, each where the one before passed. Statements only.
-use Rattle.std.specs.Prelude.{ℕ, ◌+◌, ◌*◌, ◌≤◌, List, length}
+use Rattle.rules.specs.Refusals.{Verdict}
+use Rattle.std.specs.Prelude.{ℕ, ◌+◌, ◌*◌, ◌≤◌, List, length, Ok, Err}
 use Rattle.rules.specs.declared.Settings.{Settings}
 use Rattle.rules.specs.declared.Frame.{Frame}
-use Rattle.rules.specs.declared.Verdict.{Verdict}
-use Rattle.rules.specs.declared.Verdict.TheVariants.{Passes, Refuses}
 use Rattle.rules.specs.Ranges.{most}
 use Rattle.rules.specs.Channels.{count}
 use Rattle.rules.specs.Blocks.{chroma_width, chroma_height}
@@ -42,8 +41,8 @@ pub record Laid (s : Settings) (f : Frame) (sources lumas chromas : ℕ) : Type 
 
 -- a frame that passes 7, 12, 8 and 9
 abbrev pub LaidOut : Settings → Frame → ℕ → ℕ → ℕ → Verdict → Type 0
-LaidOut s f source luma chroma Passes = (Sized f) × (Laid s f source luma chroma)
-LaidOut s f source luma chroma (Refuses r) = Unit
+LaidOut s f source luma chroma (Ok u) = (Sized f) × (Laid s f source luma chroma)
+LaidOut s f source luma chroma (Err r) = Unit
 
 -- 10 is not due either: the frame can be converted
 pub record Ready (s : Settings) (f : Frame) (source : List ℕ) (luma chroma : ℕ) : Type 0 where
@@ -53,5 +52,5 @@ pub record Ready (s : Settings) (f : Frame) (source : List ℕ) (luma chroma : �
 
 -- a frame that passes can be converted
 abbrev pub Clear : Settings → Frame → List ℕ → ℕ → ℕ → Verdict → Type 0
-Clear s f source luma chroma Passes = Ready s f source luma chroma
-Clear s f source luma chroma (Refuses r) = Unit
+Clear s f source luma chroma (Ok u) = Ready s f source luma chroma
+Clear s f source luma chroma (Err r) = Unit

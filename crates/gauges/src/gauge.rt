@@ -6,6 +6,8 @@ ghost use Rattle.gauges.specs.Gauges.{shares_of, gauge_of, SharesBounded, GaugeB
 use check_limits::Limit;
 use rules::Named;
 
+// The bounds of both are clauses and no ghost fields: the definitions `shares_of` and `gauge_of` have them of any numbers.
+
 // What each channel's sum is multiplied by in the numerator of an exact value: K × range × factor, with Kr, Kg and Kb; and 10000 ×
 // range × factor for the channel that a chroma sample is named after, blue for Cb and red for Cr.
 #[derive(Clone, Copy)]
@@ -28,7 +30,7 @@ fn share(k: u32, range: u32, factor: u16) -> u64
     requires { (k ≤ 10000) × (range ≤ 65535) × (factor ≤ 64) }
     ensures { (result ≡ k * range * factor) × (result ≤ 41942400000) }
 {
-    (k as u64) * (range as u64) * (factor as u64)
+    u64::from(k) * u64::from(range) * u64::from(factor)
 }
 
 pub fn shares_of(k: Named, range: u32, factor: u16) -> Shares
@@ -49,7 +51,7 @@ pub fn gauge_of(bias: u32, l: Limit, factor: u16) -> Gauge
 {
     Gauge {
         under: l.under,
-        start: (bias as u64) * l.under * (factor as u64),
-        bound: l.bound * (factor as u64),
+        start: u64::from(bias) * l.under * u64::from(factor),
+        bound: l.bound * u64::from(factor),
     }
 }

@@ -11,7 +11,7 @@ fn counted(share: u64, sum: u32) -> u64
     requires { (share ≤ 41942400000) × (sum ≤ 262140) }
     ensures { (result ≡ share * sum) × (result ≤ 11000000000000000) }
 {
-    share * (sum as u64)
+    share * u64::from(sum)
 }
 
 // (Kr.SR + Kg.SG + Kb.SB) × range × factor.
@@ -27,7 +27,7 @@ fn word_near(g: Gauge, plus: u64, minus: u64, v: u16) -> bool
     requires { (GaugeBounded g) × (plus ≤ 33000000000000000) × (minus ≤ 33000000000000000) }
     ensures { result ≡ word_near g plus minus v }
 {
-    tolerance_bounds::within((v as u64) * g.under + minus, g.start + plus, g.bound)
+    tolerance_bounds::within(u64::from(v) * g.under + minus, g.start + plus, g.bound)
 }
 
 // Whether a word passes as the luma of a pixel.
@@ -35,7 +35,7 @@ pub fn luma_near(g: Gauge, h: Shares, p: Pixel, v: u16) -> bool
     requires { (GaugeBounded g) × (SharesBounded h) }
     ensures { result ≡ luma_near g h (sums_of (p ∷ [])) v }
 {
-    word_near(g, shared(h, block::sums_of_one(p)), 0, v)
+    word_near(g, shared(h, block::sums_of([p])), 0, v)
 }
 
 // Whether a word passes as a chroma sample; `own` is the sum of the channel that the sample is named after.

@@ -43,29 +43,23 @@ fn to_integers(f: CbCrInverseTransform, precision: u32) -> InverseWeights
     ensures { result ≡ inverse_integers precision f }
 {
     let scale = std::num::nearest_u32_to_f32(1 << precision);
-    let y_coef = round_weight(f.y_coef * scale);
-    let cr_coef = round_weight(f.cr_coef * scale);
-    let cb_coef = round_weight(f.cb_coef * scale);
-    let g_coeff_1 = round_weight(f.g_coeff_1 * scale);
-    let g_coeff_2 = round_weight(f.g_coeff_2 * scale);
+    let whole = |x: f32| round_weight(x * scale);
     InverseWeights {
-        y_coef,
-        cr_coef,
-        cb_coef,
-        g_coeff_1,
-        g_coeff_2,
+        y_coef: whole(f.y_coef),
+        cr_coef: whole(f.cr_coef),
+        cb_coef: whole(f.cb_coef),
+        g_coeff_1: whole(f.g_coeff_1),
+        g_coeff_2: whole(f.g_coeff_2),
     }
 }
 
-// The five weights of the settings.
+// The five weights of the settings. All that it shares with `weights_of` is calls, whose results the one that differs takes.
 pub fn inverse_weights_of(s: Settings) -> InverseWeights
     requires { (10 ≤ s.depth) × (s.depth ≤ 16) × (s.precision ≤ 13) }
     ensures { result ≡ inverse_weights_of s }
 {
-    let matrix = s.matrix;
-    let range = s.range;
-    let k = matrices::get_kr_kb(matrix);
-    let g = ranges::get_yuv_range(s.depth, range);
+    let k = matrices::get_kr_kb(s.matrix);
+    let g = ranges::get_yuv_range(s.depth, s.range);
     let m = ranges::most(s.depth);
     let f = get_inverse_transform(m, g.range_y, g.range_uv, k.kr, k.kb);
     to_integers(f, s.precision)

@@ -45,7 +45,7 @@ fn sum(joined: JoinedWeights, a: u64, b: u64, c: u64) -> u64
 fn join_samples(a: u16, b: u16) -> u64
     ensures { (result ≡ joined_samples a b) × (result ≤ 281474976710655) }
 {
-    (a as u64) + (b as u64) * 4294967296
+    u64::from(a) + u64::from(b) * 4294967296
 }
 
 // The words in the two halves of a sum, once the bits below them are cleared.
@@ -86,6 +86,11 @@ pub fn chroma_words(s: Settings, w: Weights, joined: FrameWeights, p: Pixel) -> 
     ensures first { result.first ≡ packed_chroma s w 0 (colours_of s.channels p) }
     ensures second { result.second ≡ packed_chroma s w 1 (colours_of s.channels p) }
 {
-    let v = sum(joined.chroma, p.red as u64, p.green as u64, p.blue as u64);
+    let v = sum(
+        joined.chroma,
+        u64::from(p.red),
+        u64::from(p.green),
+        u64::from(p.blue),
+    );
     stored_words(v, joined.below)
 }

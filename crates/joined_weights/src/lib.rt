@@ -32,13 +32,7 @@ fn join(a: i32, b: i32) -> i64
     requires { nat_abs b ≤ 1073741823 }
     ensures { result ≡ join a b }
 {
-    (a as i64) + (b as i64) * 4294967296
-}
-
-fn widen(a: i32) -> i64
-    ensures { result ≡ a }
-{
-    a as i64
+    i64::from(a) + i64::from(b) * 4294967296
 }
 
 // The factor of all weights: 2^(13 − P) times the packing factor.
@@ -46,8 +40,7 @@ fn scale_of(s: Settings) -> u32
     requires { Reach s }
     ensures { result ≡ scale_of s }
 {
-    let packing = s.packing;
-    (1u32 << (13 - s.precision)) * (storage::packing_factor(packing, s.depth) as u32)
+    (1 << (13 - s.precision)) * u32::from(storage::packing_factor(s.packing, s.depth))
 }
 
 fn scaled(scale: u32, weight: i32) -> i32
@@ -73,10 +66,8 @@ fn in_source_order(channels: YuvSourceChannels, w: Triple) -> Triple
     ensures { result ≡ in_source_order channels w }
 {
     match channels {
-        YuvSourceChannels::Rgb => w,
-        YuvSourceChannels::Rgba => w,
-        YuvSourceChannels::Bgra => blue_first(w),
-        YuvSourceChannels::Bgr => blue_first(w),
+        YuvSourceChannels::Rgb | YuvSourceChannels::Rgba => w,
+        YuvSourceChannels::Bgra | YuvSourceChannels::Bgr => blue_first(w),
     }
 }
 
@@ -97,8 +88,7 @@ fn scaled_weights(s: Settings, w: Triple) -> Triple
     requires no_weight_above { NoWeightAbove (2 ^ s.precision) w }
     ensures { result ≡ scaled_weights s w }
 {
-    let channels = s.channels;
-    scaled_triple(scale_of(s), in_source_order(channels, w))
+    scaled_triple(scale_of(s), in_source_order(s.channels, w))
 }
 
 // What is added to the three products of a code, scaled: its bias and the rounding.
@@ -129,9 +119,9 @@ fn shared_weights(start: i32, w: Triple) -> JoinedWeights
 {
     JoinedWeights {
         start: join(start, start),
-        first: widen(w.red),
-        second: widen(w.green),
-        third: widen(w.blue),
+        first: i64::from(w.red),
+        second: i64::from(w.green),
+        third: i64::from(w.blue),
     }
 }
 
@@ -158,8 +148,7 @@ fn bits_below(s: Settings) -> u64
     requires { Reach s }
     ensures { result ≡ bits_below s }
 {
-    let packing = s.packing;
-    (8192 * (storage::packing_factor(packing, s.depth) as u64) - 1) * 4294967297
+    (8192 * u64::from(storage::packing_factor(s.packing, s.depth)) - 1) * 4294967297
 }
 
 // All that a row needs of the settings and the weights.
@@ -167,12 +156,10 @@ pub fn frame_weights(s: Settings, w: Weights) -> FrameWeights
     requires { Usable s w }
     ensures { result ≡ frame_weights s w }
 {
-    let order = s.order;
-    let range = s.range;
-    let g = ranges::get_yuv_range(s.depth, range);
+    let g = ranges::get_yuv_range(s.depth, s.range);
     let y = code::luma_row(w);
-    let first = word::chroma_row(word::is_u(order, 0), w);
-    let second = word::chroma_row(word::is_u(order, 1), w);
+    let first = word::chroma_row(word::is_u(s.order, 0), w);
+    let second = word::chroma_row(word::is_u(s.order, 1), w);
     FrameWeights {
         luma: luma_weights(s, g.bias_y, y),
         chroma: chroma_weights(s, g.bias_uv, first, second),

@@ -22,12 +22,11 @@ pub fn last_luma(s: Settings, w: Weights, width: usize, luma: &mut [u16], rgba: 
     requires convertible { Convertible s width rgba.now }
     ensures { Finished (even_columns width) (luma_words s w rgba.now) luma.old luma.new }
 {
-    let channels = s.channels;
     if width % 2 == 0 {
         return;
     }
     let x = width - 1;
-    let p = pixels::row_pixel(channels, rgba, width, x);
+    let p = pixels::row_pixel(s.channels, rgba, width, x);
     luma[x] = word::luma_word(s, w, p);
 }
 
@@ -37,8 +36,7 @@ pub fn elements_over(subsampling: YuvChromaSubsampling, columns: usize) -> usize
     ensures { result ≡ elements_over subsampling columns }
 {
     match subsampling {
-        YuvChromaSubsampling::Yuv420 => columns,
-        YuvChromaSubsampling::Yuv422 => columns,
+        YuvChromaSubsampling::Yuv420 | YuvChromaSubsampling::Yuv422 => columns,
         YuvChromaSubsampling::Yuv444 => 2 * columns,
     }
 }
@@ -59,7 +57,7 @@ fn column_mean(
     let p = pixels::row_pixel(channels, upper, width, x);
     if two {
         let u = pixels::row_pixel(channels, lower, width, x);
-        return means::mean_of_two(p, u);
+        return means::mean([p, u]);
     }
     p
 }
@@ -79,14 +77,12 @@ pub fn last_pair(
     requires convertible { (Convertible s width upper.now) × (Convertible s width lower.now) }
     ensures { Finished (even_elements s.subsampling width) (chroma_words s w width two upper.now lower.now) chroma.old chroma.new }
 {
-    let channels = s.channels;
-    let subsampling = s.subsampling;
     if width % 2 == 0 {
         return;
     }
     let last = width - 1;
-    let k = elements_over(subsampling, last);
-    let p = column_mean(channels, width, two, last, upper, lower);
+    let k = elements_over(s.subsampling, last);
+    let p = column_mean(s.channels, width, two, last, upper, lower);
     chroma[k] = word::chroma_word(s, w, p, k);
     chroma[k + 1] = word::chroma_word(s, w, p, k + 1);
 }

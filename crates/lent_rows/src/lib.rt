@@ -27,15 +27,13 @@ pub fn lend_row(
     ensures luma_grows { LumaGrows s w f source.now top (top + 1) luma.old luma.new }
     ensures chroma_grows { ChromaGrows s w f source.now row (row + 1) chroma.old chroma.new }
 {
-    let channels = s.channels;
-    let subsampling = s.subsampling;
     let width = f.width;
-    let upper = source_row(channels, f, source, top);
-    let lower = source_row(channels, f, source, blocks::second(two, top));
+    let upper = source_row(s.channels, f, source, top);
+    let lower = source_row(s.channels, f, source, blocks::second(two, top));
     let luma_start = top * f.luma_stride;
     let luma_end = luma_start + width;
     let chroma_start = row * f.chroma_stride;
-    let chroma_end = chroma_start + blocks::chroma_width(subsampling, width);
+    let chroma_end = chroma_start + blocks::chroma_width(s.subsampling, width);
     process_rows::process_row(
         s,
         w,
@@ -62,9 +60,8 @@ pub fn lend_luma_row(
     requires ready { (Ready s f source.now (length luma.old) chroma) × (row < f.height) }
     ensures { LumaGrows s w f source.now row (row + 1) luma.old luma.new }
 {
-    let channels = s.channels;
     let width = f.width;
-    let rgba = source_row(channels, f, source, row);
+    let rgba = source_row(s.channels, f, source, row);
     let start = row * f.luma_stride;
     let end = start + width;
     process_rows::process_luma_row(s, w, width, &mut luma[start..end], rgba);

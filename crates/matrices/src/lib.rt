@@ -33,8 +33,7 @@ fn ten_thousandths(n: u32) -> f32
 pub fn get_kr_kb(matrix: YuvStandardMatrix) -> YuvBias
     ensures { result ≡ pair_of (matrix_of matrix) }
 {
-    let m = matrix_of(matrix);
-    match m {
+    match matrix_of(matrix) {
         Matrix::Tabled(k) => YuvBias {
             kr: ten_thousandths(k.kr),
             kb: ten_thousandths(k.kb),

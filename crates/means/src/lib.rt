@@ -1,45 +1,36 @@
-// The mean of two and of four pixels, channel by channel.
+// The mean of a block of pixels, channel by channel.
 #![tactic(auto)]
 
-ghost use Rattle.std.specs.Prelude.{◌≡◌, [], ◌∷◌, ◌+◌, ◌/◌};
-ghost use Rattle.rules.specs.Blocks.{averaged};
+ghost use Rattle.std.specs.Prelude.{◌≡◌, ◌*◌, ◌≤◌};
+ghost use Rattle.rules.specs.Blocks.{mean, averaged};
 
 use rules::Pixel;
 
-fn widen(x: u16) -> u32
-    ensures { result ≡ x }
+// The mean of n samples by their sum; an exact half is rounded up.
+fn rounded(n: usize, sum: usize) -> u16
+    requires { (1 ≤ n) × (n ≤ 4) × (sum ≤ n * 65535) }
+    ensures { result ≡ mean n sum }
 {
-    x as u32
+    ((sum + n / 2) / n) as u16
 }
 
-fn half(a: u16, b: u16) -> u16
-    ensures { result ≡ (a + b + 1) / 2 }
+// The mean of one to four pixels.
+pub fn mean<const N: usize>(block: [Pixel; N]) -> Pixel
+    requires { (1 ≤ N) × (N ≤ 4) }
+    ensures { result ≡ averaged block.entry }
 {
-    ((widen(a) + widen(b) + 1) / 2) as u16
-}
-
-fn quarter(a: u16, b: u16, c: u16, e: u16) -> u16
-    ensures { result ≡ (a + b + c + e + 2) / 4 }
-{
-    ((widen(a) + widen(b) + widen(c) + widen(e) + 2) / 4) as u16
-}
-
-pub fn mean_of_two(p: Pixel, q: Pixel) -> Pixel
-    ensures { result ≡ averaged (p ∷ q ∷ []) }
-{
-    Pixel {
-        red: half(p.red, q.red),
-        green: half(p.green, q.green),
-        blue: half(p.blue, q.blue),
+    let mut reds = 0;
+    let mut greens = 0;
+    let mut blues = 0;
+    for p in &block {
+        let Pixel { red, green, blue } = *p;
+        reds += usize::from(red);
+        greens += usize::from(green);
+        blues += usize::from(blue);
     }
-}
-
-pub fn mean_of_four(p: Pixel, q: Pixel, u: Pixel, v: Pixel) -> Pixel
-    ensures { result ≡ averaged (p ∷ q ∷ u ∷ v ∷ []) }
-{
     Pixel {
-        red: quarter(p.red, q.red, u.red, v.red),
-        green: quarter(p.green, q.green, u.green, v.green),
-        blue: quarter(p.blue, q.blue, u.blue, v.blue),
+        red: rounded(N, reds),
+        green: rounded(N, greens),
+        blue: rounded(N, blues),
     }
 }

@@ -1,5 +1,5 @@
 -- The settings that numbers name: each enumeration by the Rust's numbers, the matrices in the order of 01's table. Definitions only.
-use Rattle.std.specs.Prelude.{ℕ, Bool, ◌&&◌, cond, eqb, leb, Float}
+use Rattle.std.specs.Prelude.{ℕ, Bool, ◌&&◌, cond, eqb, leb, Float, Result, Ok, Err}
 use Rattle.rules.specs.declared.Settings.{Settings}
 use Rattle.rules.specs.declared.YuvStandardMatrix.{YuvStandardMatrix}
 use Rattle.rules.specs.declared.YuvStandardMatrix.TheVariants.{Bt601, Bt709, Bt2020, Smpte240, Bt470_6, Custom}
@@ -16,8 +16,7 @@ use Rattle.rules.specs.declared.YuvEndianness.TheVariants.{BigEndian, LittleEndi
 use Rattle.rules.specs.declared.YuvSourceChannels.{YuvSourceChannels}
 use Rattle.rules.specs.declared.YuvSourceChannels.TheVariants.{Rgb, Rgba, Bgra, Bgr}
 use Rattle.numbers.specs.declared.SettingsNumbers.{SettingsNumbers}
-use Rattle.numbers.specs.declared.Meant.{Meant}
-use Rattle.numbers.specs.declared.Meant.TheVariants.{Nothing, These}
+use Rattle.numbers.specs.declared.Unnamed.{Unnamed}
 
 abbrev pub matrix_of : ℕ → Float → Float → YuvStandardMatrix
 matrix_of n kr kb =
@@ -71,6 +70,17 @@ these n =
       channels = channels_of n.channels;
     }
 
+-- what the numbers mean: settings, or that one of them names no case
+abbrev pub Meant : Type 0
+Meant = Result Settings Unnamed
+
+abbrev pub no_case : Unnamed
+no_case = record {}
+
+-- a number up to the last names a case of its enumeration
+abbrev pub up_to : {A : Type 0} → ℕ → ℕ → A → Result A Unnamed
+up_to last n case = cond (leb n last) (Ok case) (Err no_case)
+
 -- the settings, or nothing where a number names no case
 unfoldable pub settings_of : SettingsNumbers → Meant
-settings_of n = cond (named n) (These (these n)) Nothing
+settings_of n = cond (named n) (Ok (these n)) (Err no_case)

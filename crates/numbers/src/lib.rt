@@ -2,7 +2,7 @@
 #![tactic(auto)]
 
 ghost use Rattle.std.specs.Prelude.{◌≡◌};
-ghost use Rattle.numbers.specs.Numbers.{matrix_of, range_of, subsampling_of, order_of, packing_of, endianness_of, channels_of, named, these, settings_of};
+ghost use Rattle.numbers.specs.Numbers.{matrix_of, range_of, subsampling_of, order_of, packing_of, endianness_of, channels_of, up_to, settings_of};
 
 use rules::{
     Settings, YuvBytesPacking, YuvChromaSubsampling, YuvEndianness, YuvNVOrder, YuvRange,
@@ -26,130 +26,104 @@ pub struct SettingsNumbers {
     pub channels: u32,
 }
 
-// What the numbers mean: settings, or nothing where one of them names no case.
-#[derive(Clone, Copy)]
-pub enum Meant {
-    Nothing,
-    These(Settings),
-}
+// A number that names no case of its enumeration.
+#[derive(Clone, Copy, Debug, PartialEq, Eq)]
+pub struct Unnamed;
 
-fn matrix_of(n: u32, kr: f32, kb: f32) -> YuvStandardMatrix
-    ensures { result ≡ matrix_of n kr kb }
+// Functions, since TryFrom<u32> of these enumerations would have to stand in `rules`, which knows nothing of the interface's numbers.
+fn matrix_of(n: u32, kr: f32, kb: f32) -> Result<YuvStandardMatrix, Unnamed>
+    ensures { result ≡ up_to 5 n (matrix_of n kr kb) }
 {
     match n {
-        0 => YuvStandardMatrix::Bt601,
-        1 => YuvStandardMatrix::Bt709,
-        2 => YuvStandardMatrix::Bt2020,
-        3 => YuvStandardMatrix::Smpte240,
-        4 => YuvStandardMatrix::Bt470_6,
-        _ => YuvStandardMatrix::Custom(kr, kb),
+        0 => Ok(YuvStandardMatrix::Bt601),
+        1 => Ok(YuvStandardMatrix::Bt709),
+        2 => Ok(YuvStandardMatrix::Bt2020),
+        3 => Ok(YuvStandardMatrix::Smpte240),
+        4 => Ok(YuvStandardMatrix::Bt470_6),
+        5 => Ok(YuvStandardMatrix::Custom(kr, kb)),
+        _ => Err(Unnamed),
     }
 }
 
-fn range_of(n: u32) -> YuvRange
-    ensures { result ≡ range_of n }
+fn range_of(n: u32) -> Result<YuvRange, Unnamed>
+    ensures { result ≡ up_to 1 n (range_of n) }
 {
     match n {
-        0 => YuvRange::Limited,
-        _ => YuvRange::Full,
+        0 => Ok(YuvRange::Limited),
+        1 => Ok(YuvRange::Full),
+        _ => Err(Unnamed),
     }
 }
 
-fn subsampling_of(n: u32) -> YuvChromaSubsampling
-    ensures { result ≡ subsampling_of n }
+fn subsampling_of(n: u32) -> Result<YuvChromaSubsampling, Unnamed>
+    ensures { result ≡ up_to 2 n (subsampling_of n) }
 {
     match n {
-        0 => YuvChromaSubsampling::Yuv420,
-        1 => YuvChromaSubsampling::Yuv422,
-        _ => YuvChromaSubsampling::Yuv444,
+        0 => Ok(YuvChromaSubsampling::Yuv420),
+        1 => Ok(YuvChromaSubsampling::Yuv422),
+        2 => Ok(YuvChromaSubsampling::Yuv444),
+        _ => Err(Unnamed),
     }
 }
 
-fn order_of(n: u32) -> YuvNVOrder
-    ensures { result ≡ order_of n }
+fn order_of(n: u32) -> Result<YuvNVOrder, Unnamed>
+    ensures { result ≡ up_to 1 n (order_of n) }
 {
     match n {
-        0 => YuvNVOrder::UV,
-        _ => YuvNVOrder::VU,
+        0 => Ok(YuvNVOrder::UV),
+        1 => Ok(YuvNVOrder::VU),
+        _ => Err(Unnamed),
     }
 }
 
-fn packing_of(n: u32) -> YuvBytesPacking
-    ensures { result ≡ packing_of n }
+fn packing_of(n: u32) -> Result<YuvBytesPacking, Unnamed>
+    ensures { result ≡ up_to 1 n (packing_of n) }
 {
     match n {
-        0 => YuvBytesPacking::MostSignificantBytes,
-        _ => YuvBytesPacking::LeastSignificantBytes,
+        0 => Ok(YuvBytesPacking::MostSignificantBytes),
+        1 => Ok(YuvBytesPacking::LeastSignificantBytes),
+        _ => Err(Unnamed),
     }
 }
 
-fn endianness_of(n: u32) -> YuvEndianness
-    ensures { result ≡ endianness_of n }
+fn endianness_of(n: u32) -> Result<YuvEndianness, Unnamed>
+    ensures { result ≡ up_to 1 n (endianness_of n) }
 {
     match n {
-        0 => YuvEndianness::BigEndian,
-        _ => YuvEndianness::LittleEndian,
+        0 => Ok(YuvEndianness::BigEndian),
+        1 => Ok(YuvEndianness::LittleEndian),
+        _ => Err(Unnamed),
     }
 }
 
-fn channels_of(n: u32) -> YuvSourceChannels
-    ensures { result ≡ channels_of n }
+fn channels_of(n: u32) -> Result<YuvSourceChannels, Unnamed>
+    ensures { result ≡ up_to 3 n (channels_of n) }
 {
     match n {
-        0 => YuvSourceChannels::Rgb,
-        1 => YuvSourceChannels::Rgba,
-        2 => YuvSourceChannels::Bgra,
-        _ => YuvSourceChannels::Bgr,
+        0 => Ok(YuvSourceChannels::Rgb),
+        1 => Ok(YuvSourceChannels::Rgba),
+        2 => Ok(YuvSourceChannels::Bgra),
+        3 => Ok(YuvSourceChannels::Bgr),
+        _ => Err(Unnamed),
     }
 }
 
-// Whether every number names a case of its enumeration.
-fn all_named(n: SettingsNumbers) -> bool
-    ensures { result ≡ named n }
-{
-    if n.matrix > 5 {
-        return false;
-    }
-    if n.range > 1 {
-        return false;
-    }
-    if n.subsampling > 2 {
-        return false;
-    }
-    if n.order > 1 {
-        return false;
-    }
-    if n.packing > 1 {
-        return false;
-    }
-    if n.byte_order > 1 {
-        return false;
-    }
-    n.channels <= 3
-}
+impl TryFrom<SettingsNumbers> for Settings {
+    type Error = Unnamed;
 
-fn settings_of_named(n: SettingsNumbers) -> Settings
-    ensures { result ≡ these n }
-{
-    Settings::new(
-        n.depth,
-        n.precision,
-        matrix_of(n.matrix, n.kr, n.kb),
-        range_of(n.range),
-        subsampling_of(n.subsampling),
-        order_of(n.order),
-        packing_of(n.packing),
-        endianness_of(n.byte_order),
-        channels_of(n.channels),
-    )
-}
+    ghost try_from_gives = { λ n meant. meant ≡ settings_of n };
 
-// The settings that numbers name, or nothing.
-pub fn settings_of(n: SettingsNumbers) -> Meant
-    ensures { result ≡ settings_of n }
-{
-    if !all_named(n) {
-        return Meant::Nothing;
+    fn try_from(n: SettingsNumbers) -> Result<Settings, Unnamed> {
+        Ok(Settings {
+            depth: n.depth,
+            precision: n.precision,
+            matrix: matrix_of(n.matrix, n.kr, n.kb)?,
+            range: range_of(n.range)?,
+            subsampling: subsampling_of(n.subsampling)?,
+            order: order_of(n.order)?,
+            packing: packing_of(n.packing)?,
+            endianness: endianness_of(n.byte_order)?,
+            channels: channels_of(n.channels)?,
+        })
     }
-    Meant::These(settings_of_named(n))
 }

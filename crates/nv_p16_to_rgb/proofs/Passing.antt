@@ -1,4 +1,5 @@
 -- Planes and a buffer that no refusal meets can be turned back. Assumes nothing.
+use Rattle.std.proofs.Common.{None, Some}
 use mathlib.Core.Path.{◌≡◌, refl}
 use mathlib.Core.List.{List, [], ◌∷◌}
 use Prim.Native.Nat.{ℕ}
@@ -7,10 +8,8 @@ use lib.IntN.{ℤ}
 use lib.ListN.{length}
 use Rattle.rules.specs.declared.Settings.{Settings}
 use Rattle.rules.specs.declared.Frame.{Frame}
-use Rattle.rules.specs.declared.Search.{Search}
-use Rattle.rules.specs.declared.Search.TheVariants.{Nothing, At}
 use Rattle.rules.specs.Refusals.{passes, first}
-use Rattle.rules.specs.Search.{first_values}
+use Rattle.rules.specs.Search.{first_values, Search}
 use Rattle.rules.specs.ToRgb.{malformed_line, plane_lines}
 use Rattle.rule_laws.proofs.Refusals.{passed, passed_by}
 use Rattle.plane_laws.proofs.Searches.{none_clean}
@@ -25,10 +24,10 @@ unplaced [] h = refl
 unplaced (v ∷ vs) h = absurd (let z : ◌≡◌ {A = ℕ} 0 1 = cc in omega arith)
 
 -- and no place means that neither search found one
-neither_found : (y c : Search) → first_values y c ≡ [] → (y ≡ Nothing) × (c ≡ Nothing)
-neither_found Nothing Nothing h = (refl, refl)
-neither_found Nothing (At row e) h = absurd (let z : ◌≡◌ {A = ℕ} 0 1 = cc in omega arith)
-neither_found (At row e) c h = absurd (let z : ◌≡◌ {A = ℕ} 0 1 = cc in omega arith)
+neither_found : (y c : Search) → first_values y c ≡ [] → (y ≡ None) × (c ≡ None)
+neither_found None None h = (refl, refl)
+neither_found None (Some p) h = absurd (let z : ◌≡◌ {A = ℕ} 0 1 = cc in omega arith)
+neither_found (Some p) c h = absurd (let z : ◌≡◌ {A = ℕ} 0 1 = cc in omega arith)
 
 pub record Restorable (s : Settings) (f : Frame) (luma chroma : List ℕ) (rgb : ℕ) : Type 0 where
   pub readable : Readable s f luma chroma

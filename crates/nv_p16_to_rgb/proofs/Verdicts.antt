@@ -38,3 +38,7 @@ module _ (s : Settings) (f : Frame) (luma chroma rgb : List ℕ) where
   settled w e p h q =
       let g = by_line (first after) (passed_on (settle_lines s) after (weighed_passes s w e).0) in
       (p ∙ ap (λ (k : Line). answer k (given [])) h ∙ g.0, q ∙ ap left h ∙ g.1)
+
+  -- the lines after it refuse: the buffer is as it was
+  pub left_over : (n : ℕ) (v : List ℤ) (ls : List Line) → refuses n v ≡ first ls → rgb ≡ left (first ls)
+  left_over n v ls h = ap left h

@@ -14,32 +14,8 @@ ghost use Rattle.rule_laws.specs.Usable.{Reach};
 use inverse_weights::inverse_weights_of;
 use plane_refusals::planes_verdict;
 use restored_frame::restore_frame;
-use rules::{Converted, Frame, Matrix, Named, Refusal, Settings, Settled, Verdict};
+use rules::{Frame, Matrix, Named, Refusal, Settings};
 use settle::settle;
-use verdict_answers::answer_of;
-
-// The RGB buffer where nothing is refused; else it stays as it was.
-fn write_rgb(
-    verdict: Verdict,
-    s: Settings,
-    k: Named,
-    f: Frame,
-    luma: &[u16],
-    chroma: &[u16],
-    rgb: &mut [u16],
-)
-    requires reach { (Reach s) × (matrix_of s.matrix ≡ Tabled k) }
-    requires verdict_value { line_of verdict ≡ first (plane_lines s f luma.now chroma.now (length rgb.old)) }
-    ensures { rgb.new ≡ rgb_left (line_of verdict) s (inverse_weights_of s) f luma.now chroma.now rgb.old }
-{
-    match verdict {
-        Verdict::Passes => {
-            let w = inverse_weights_of(s);
-            restore_frame(s, w, f, luma, chroma, rgb)
-        }
-        Verdict::Refuses(r) => {}
-    }
-}
 
 // For a row of the table of matrices: refusals 7, 12, 8, 9 and 13, then the frame.
 fn restore_named(
@@ -49,14 +25,14 @@ fn restore_named(
     luma: &[u16],
     chroma: &[u16],
     rgb: &mut [u16],
-) -> Verdict
+) -> Result<(), Refusal>
     requires { (Reach s) × (matrix_of s.matrix ≡ Tabled k) }
     ensures verdict { line_of result ≡ first (plane_lines s f luma.now chroma.now (length rgb.old)) }
     ensures rgb { rgb.new ≡ rgb_left (line_of result) s (inverse_weights_of s) f luma.now chroma.now rgb.old }
 {
-    let verdict = planes_verdict(s, f, luma, chroma, rgb.len());
-    write_rgb(verdict, s, k, f, luma, chroma, rgb);
-    verdict
+    planes_verdict(s, f, luma, chroma, rgb.len())?;
+    restore_frame(s, inverse_weights_of(s), f, luma, chroma, rgb);
+    Ok(())
 }
 
 // For settled settings: refusal 6 for a custom matrix, then the planes'.
@@ -67,29 +43,28 @@ fn restore_matrix(
     luma: &[u16],
     chroma: &[u16],
     rgb: &mut [u16],
-) -> Verdict
+) -> Result<(), Refusal>
     requires { (Reach s) × (matrix ≡ matrix_of s.matrix) }
     ensures verdict { line_of result ≡ first (custom_line s ∷ plane_lines s f luma.now chroma.now (length rgb.old)) }
     ensures rgb { rgb.new ≡ rgb_left (line_of result) s (inverse_weights_of s) f luma.now chroma.now rgb.old }
 {
     match matrix {
-        Matrix::Own(_) => Verdict::Refuses(Refusal::CustomUnchecked),
+        Matrix::Own(_) => Err(Refusal::CustomUnchecked),
         Matrix::Tabled(k) => restore_named(s, k, f, luma, chroma, rgb),
     }
 }
 
 // Settles the settings, then turns the frame back: the first refusal that applies, or the RGB buffer written.
-pub fn to_rgb(s: Settings, f: Frame, luma: &[u16], chroma: &[u16], rgb: &mut [u16]) -> Converted
+pub fn to_rgb(
+    s: Settings,
+    f: Frame,
+    luma: &[u16],
+    chroma: &[u16],
+    rgb: &mut [u16],
+) -> Result<(), Refusal>
     ensures answer { converted_answer result ≡ to_rgb s f luma.now chroma.now rgb.old }
     ensures rgb { rgb.new ≡ rgb_after s f luma.now chroma.now rgb.old }
 {
-    let settled = settle(s);
-    match settled {
-        Settled::Refused(r) => Converted::Refused(r),
-        Settled::Weighed(_) => {
-            let standard = s.matrix;
-            let matrix = matrices::matrix_of(standard);
-            answer_of(restore_matrix(s, matrix, f, luma, chroma, rgb))
-        }
-    }
+    settle(s)?;
+    restore_matrix(s, matrices::matrix_of(s.matrix), f, luma, chroma, rgb)
 }

@@ -1,6 +1,5 @@
 // Two source rows at 4:2:0: the chroma row with the upper luma row, and the lower luma row by itself; two columns in each turn, before
-// the bytes are exchanged. Pixels are read as if they were Rgb, since the weights stand in source order. The first loop ends by a count of
-// pairs, the second by the row's length: with these tests the compiler makes the shortest loops.
+// the bytes are exchanged. Pixels are read as if they were Rgb, since the weights stand in source order.
 #![tactic(auto)]
 
 ghost use Rattle.std.specs.Prelude.{◌≡◌, true, ◌≤◌, length};
@@ -33,21 +32,17 @@ pub fn block_loop(
     requires convertible { (Convertible s width upper.now) × (Convertible s width lower.now) }
     ensures { PackedWritten s w width true upper.now lower.now luma.old luma.new chroma.old chroma.new }
 {
-    let channels = s.channels;
-    let n = get_channels_count(channels);
+    let n = get_channels_count(s.channels);
     let joined = frame_weights(s, w);
-    let pairs = width / 2;
-    let mut pair = 0;
-    while pair < pairs {
-        let x = 2 * pair;
-        let i = x * n;
+    for block in 0..width / 2 {
+        let left = 2 * block;
+        let i = left * n;
         let p = pixels::pixel_at(YuvSourceChannels::Rgb, upper, i);
         let q = pixels::pixel_at(YuvSourceChannels::Rgb, upper, i + n);
-        put_luma(s, w, joined, luma, x, p, q);
+        put_luma(s, w, joined, luma, left, p, q);
         let u = pixels::pixel_at(YuvSourceChannels::Rgb, lower, i);
         let v = pixels::pixel_at(YuvSourceChannels::Rgb, lower, i + n);
-        put_pair(s, w, joined, chroma, x, means::mean_of_four(p, q, u, v));
-        pair += 1;
+        put_pair(s, w, joined, chroma, left, means::mean([p, q, u, v]));
     }
 }
 
@@ -58,9 +53,9 @@ pub fn luma_loop(s: Settings, w: Weights, width: usize, luma: &mut [u16], rgba: 
     requires convertible { Convertible s width rgba.now }
     ensures { Begun (even_columns width) (packed_luma_row s w rgba.now) luma.old luma.new }
 {
-    let channels = s.channels;
-    let n = get_channels_count(channels);
+    let n = get_channels_count(s.channels);
     let joined = frame_weights(s, w);
+    // not a `for` over pairs, by which converting to 4:2:0 takes 3 percent longer
     let mut x = 0;
     let mut i = 0;
     while i + 2 * n <= rgba.len() {

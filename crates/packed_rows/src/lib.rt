@@ -1,6 +1,6 @@
 // One source row: a luma row and a chroma row, two columns in each turn, before the bytes are exchanged.
-// Pixels are read as if they were Rgb, since the weights stand in source order. The loops end by the row's length: with this test the
-// compiler makes the shortest loops.
+// Pixels are read as if they were Rgb, since the weights stand in source order. The loops here and in packed_blocks stay four: they read one
+// row or two and write none, one or two pairs in a turn, and one loop with that as a parameter would be no plainer than each is.
 #![tactic(auto)]
 
 ghost use Rattle.std.specs.Prelude.{◌≡◌, true, false, length};
@@ -31,19 +31,16 @@ pub fn single_loop(
     requires convertible { Convertible s width rgba.now }
     ensures { PackedWritten s w width false rgba.now rgba.now luma.old luma.new chroma.old chroma.new }
 {
-    let channels = s.channels;
-    let n = get_channels_count(channels);
+    let n = get_channels_count(s.channels);
     let joined = frame_weights(s, w);
-    let mut x = 0;
-    let mut i = 0;
-    while i + 2 * n <= rgba.len() {
+    for pair in 0..width / 2 {
+        let x = 2 * pair;
+        let i = x * n;
         let p = pixels::pixel_at(YuvSourceChannels::Rgb, rgba, i);
         let q = pixels::pixel_at(YuvSourceChannels::Rgb, rgba, i + n);
         put_luma(s, w, joined, luma, x, p, q);
         put_pair(s, w, joined, chroma, 2 * x, p);
         put_pair(s, w, joined, chroma, 2 * x + 2, q);
-        x += 2;
-        i += 2 * n;
     }
 }
 
@@ -61,17 +58,14 @@ pub fn paired_loop(
     requires convertible { Convertible s width rgba.now }
     ensures { PackedWritten s w width false rgba.now rgba.now luma.old luma.new chroma.old chroma.new }
 {
-    let channels = s.channels;
-    let n = get_channels_count(channels);
+    let n = get_channels_count(s.channels);
     let joined = frame_weights(s, w);
-    let mut x = 0;
-    let mut i = 0;
-    while i + 2 * n <= rgba.len() {
+    for pair in 0..width / 2 {
+        let x = 2 * pair;
+        let i = x * n;
         let p = pixels::pixel_at(YuvSourceChannels::Rgb, rgba, i);
         let q = pixels::pixel_at(YuvSourceChannels::Rgb, rgba, i + n);
         put_luma(s, w, joined, luma, x, p, q);
-        put_pair(s, w, joined, chroma, x, means::mean_of_two(p, q));
-        x += 2;
-        i += 2 * n;
+        put_pair(s, w, joined, chroma, x, means::mean([p, q]));
     }
 }

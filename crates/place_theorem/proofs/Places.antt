@@ -1,5 +1,6 @@
 -- THE THEOREMS of refusal 10's place: it is the first visible colour sample that exceeds m, and convert and check give the same one for
 -- the same settings, frame and source, whatever the planes hold. Assumes nothing.
+use Rattle.std.proofs.Common.{None, Some}
 use mathlib.Core.Path.{◌≡◌, refl, sym, ap, ◌∙◌}
 use mathlib.Core.List.{List, [], ◌++◌}
 use mathlib.Core.Bool.{true}
@@ -11,14 +12,12 @@ use lib.ListN.{length}
 use borrow.Author.Tests.{leb-true, leb-false}
 use Rattle.rules.specs.declared.Settings.{Settings}
 use Rattle.rules.specs.declared.Frame.{Frame}
-use Rattle.rules.specs.declared.Search.{Search}
-use Rattle.rules.specs.declared.Search.TheVariants.{Nothing, At}
 use Rattle.rules.specs.Ranges.{most}
 use Rattle.rules.specs.Channels.{Picture}
 use Rattle.rules.specs.Matrices.{matrix_of}
 use Rattle.rules.specs.Weights.{weights_of}
 use Rattle.rules.specs.Refusals.{outside, Line, refuses, first}
-use Rattle.rules.specs.Search.{FirstWrong, first_failing}
+use Rattle.rules.specs.Search.{FirstWrong, first_failing, Search}
 use Rattle.rules.specs.Answers.{refused}
 use Rattle.rules.specs.Settle.{pair_off, weight_off, some_code_off, settle_lines}
 use Rattle.rules.specs.Frames.{size_off, window_off, stride_off, length_off, shown, channel_of, low_test, too_large, place_line, too_large_line, frame_lines}
@@ -79,9 +78,9 @@ module _ (m : ℕ) (f : Frame) (px : Picture) where
   carries v e = by (first_failing (low_test m px) (3 * f.width) f.height) refl e
     where
       by : (x : Search) → first_failing (low_test m px) (3 * f.width) f.height ≡ x → place_line x ≡ refuses 10 v → Carries m f px v
-      by Nothing h q = absurd (let z : ◌≡◌ {A = ℕ} 0 1 = cc in omega arith)
-      by (At row i) h q =
-          record { row = row; pixel = i / 3; channel = i % 3; carried = cc; first = named row i (found_wrong (low_test m px) (3 * f.width) f.height row i h) }
+      by None h q = absurd (let z : ◌≡◌ {A = ℕ} 0 1 = cc in omega arith)
+      by (Some p) h q =
+          record { row = p.row; pixel = p.element / 3; channel = p.element % 3; carried = cc; first = named p.row p.element (found_wrong (low_test m px) (3 * f.width) f.height p.row p.element h) }
 
 module _ (s : Settings) (f : Frame) (source luma chroma : List ℕ) (v : List ℤ) where
   -- THE THEOREM, of convert and of check: the place is visible, its sample exceeds m, and every visible sample before it is at most m

@@ -1,4 +1,5 @@
 -- Laws of the search for the first sample that fails a test. Assumes nothing.
+use Rattle.std.proofs.Common.{None, Some}
 use mathlib.Core.Path.{◌≡◌, refl, sym, ap, ◌∙◌, subst, subst⁻¹}
 use mathlib.Core.Logic.{⊎_elim}
 use mathlib.Core.Bool.{Bool, true, false, true≢false}
@@ -6,21 +7,19 @@ use Prim.Native.Nat.{ℕ, zero, suc, ◌+◌, ◌<◌}
 use native.Mathlib.Nat.{le_of_suc-le-suc, not-suc-le-zero, eq-or-lt_of_le}
 use native.Mathlib.Numerals.{add-one}
 use native.Mathlib.Omega.{arith}
-use Rattle.rules.specs.declared.Search.{Search}
-use Rattle.rules.specs.declared.Search.TheVariants.{Nothing, At}
-use Rattle.rules.specs.Search.{Test, or_else, first_below, failing, first_failing, is_found, Clean, FirstWrong}
+use Rattle.rules.specs.Search.{Test, or_else, first_below, failing, first_failing, is_found, Clean, FirstWrong, Search, found_at}
 
-pub not_found : (s : Search) → is_found s ≡ false → s ≡ Nothing
-not_found Nothing h = refl
-not_found (At row e) h = absurd (true≢false h)
+pub not_found : (s : Search) → is_found s ≡ false → s ≡ None
+not_found None h = refl
+not_found (Some p) h = absurd (true≢false h)
 
 keeps : (s t : Search) → is_found s ≡ true → or_else s t ≡ s
-keeps Nothing t h = absurd (true≢false (sym h))
-keeps (At r e) t h = refl
+keeps None t h = absurd (true≢false (sym h))
+keeps (Some p) t h = refl
 
-both_nothing : (s t : Search) → or_else s t ≡ Nothing → (s ≡ Nothing) × (t ≡ Nothing)
-both_nothing Nothing t h = (refl, h)
-both_nothing (At r e) t h = absurd (true≢false (ap is_found h))
+both_nothing : (s t : Search) → or_else s t ≡ None → (s ≡ None) × (t ≡ None)
+both_nothing None t h = (refl, h)
+both_nothing (Some p) t h = absurd (true≢false (ap is_found h))
 
 more : (i n : ℕ) → i < n → i < suc n
 more i n h = omega arith
@@ -29,20 +28,20 @@ last : (n : ℕ) → n < suc n
 last n = omega arith
 
 module _ (f : ℕ → Search) where
-  pub none_yet : first_below 0 f ≡ Nothing
+  pub none_yet : first_below 0 f ≡ None
   unfolding first_below
   none_yet = refl
 
-  next_none : (n : ℕ) → first_below n f ≡ Nothing → f n ≡ Nothing → first_below (suc n) f ≡ Nothing
+  next_none : (n : ℕ) → first_below n f ≡ None → f n ≡ None → first_below (suc n) f ≡ None
   unfolding first_below
   next_none n h e = λ i. or_else (h i) (e i)
 
   -- nothing below n, and nothing at n
-  pub none_more : (n : ℕ) → first_below n f ≡ Nothing → is_found (f n) ≡ false → first_below (n + 1) f ≡ Nothing
+  pub none_more : (n : ℕ) → first_below n f ≡ None → is_found (f n) ≡ false → first_below (n + 1) f ≡ None
   none_more n h e = ap (λ (k : ℕ). first_below k f) (add-one n) ∙ next_none n h (not_found (f n) e)
 
   -- nothing below i, and something at i
-  pub found_first : (n i : ℕ) → i < n → first_below i f ≡ Nothing → is_found (f i) ≡ true → first_below n f ≡ f i
+  pub found_first : (n i : ℕ) → i < n → first_below i f ≡ None → is_found (f i) ≡ true → first_below n f ≡ f i
   unfolding first_below
   found_first zero i l h e = absurd (not-suc-le-zero l)
   found_first (suc n) i l h e =
@@ -52,7 +51,7 @@ module _ (f : ℕ → Search) where
       (eq-or-lt_of_le (le_of_suc-le-suc l))
 
   -- nothing anywhere
-  pub none_at : (n : ℕ) → first_below n f ≡ Nothing → (i : ℕ) → i < n → f i ≡ Nothing
+  pub none_at : (n : ℕ) → first_below n f ≡ None → (i : ℕ) → i < n → f i ≡ None
   unfolding first_below
   none_at zero h i l = absurd (not-suc-le-zero l)
   none_at (suc n) h i l =
@@ -60,7 +59,7 @@ module _ (f : ℕ → Search) where
       ⊎_elim (λ (q : i ≡ n). ap f q ∙ b.1) (λ (q : i < n). none_at n b.0 i q) (eq-or-lt_of_le (le_of_suc-le-suc l))
 
 -- nothing at any place
-pub none_all : (n : ℕ) (f : ℕ → Search) → ((i : ℕ) → i < n → f i ≡ Nothing) → first_below n f ≡ Nothing
+pub none_all : (n : ℕ) (f : ℕ → Search) → ((i : ℕ) → i < n → f i ≡ None) → first_below n f ≡ None
 none_all zero f h = none_yet f
 none_all (suc n) f h = next_none f n (none_all n f (λ i l. h i (more i n l))) (h n (last n))
 
@@ -74,24 +73,24 @@ first_ext (suc n) f g h = λ j. or_else (first_ext n f g (λ i l. h i (more i n 
 record Where (n : ℕ) (f : ℕ → Search) (r e : ℕ) : Type 0 where
   i : ℕ
   inside : i < n
-  none : first_below i f ≡ Nothing
-  here : f i ≡ At r e
+  none : first_below i f ≡ None
+  here : f i ≡ found_at r e
 
-found_where : (n : ℕ) (f : ℕ → Search) (r e : ℕ) → first_below n f ≡ At r e → Where n f r e
+found_where : (n : ℕ) (f : ℕ → Search) (r e : ℕ) → first_below n f ≡ found_at r e → Where n f r e
 unfolding first_below
 found_where zero f r e h = absurd (true≢false (sym (ap is_found h)))
 found_where (suc n) f r e h = go (first_below n f) refl h (λ q. found_where n f r e q)
   where
-    go : (s : Search) → first_below n f ≡ s → or_else s (f n) ≡ At r e → (first_below n f ≡ At r e → Where n f r e) → Where (suc n) f r e
-    go Nothing q k below = record { i = n; inside = last n; none = q; here = k }
-    go (At a b) q k below = let w = below (q ∙ k) in record { i = w.i; inside = more w.i n w.inside; none = w.none; here = w.here }
+    go : (s : Search) → first_below n f ≡ s → or_else s (f n) ≡ found_at r e → (first_below n f ≡ found_at r e → Where n f r e) → Where (suc n) f r e
+    go None q k below = record { i = n; inside = last n; none = q; here = k }
+    go (Some p) q k below = let w = below (q ∙ k) in record { i = w.i; inside = more w.i n w.inside; none = w.none; here = w.here }
 
 -- ---- the first sample that fails
 
-fails_not : (b : Bool) (row e : ℕ) → b ≡ true → failing b row e ≡ Nothing
+fails_not : (b : Bool) (row e : ℕ) → b ≡ true → failing b row e ≡ None
 fails_not b row e h = ap (λ (t : Bool). failing t row e) h
 
-passes_if : (b : Bool) (row e : ℕ) → failing b row e ≡ Nothing → b ≡ true
+passes_if : (b : Bool) (row e : ℕ) → failing b row e ≡ None → b ≡ true
 passes_if true row e h = refl
 passes_if false row e h = absurd (true≢false (ap is_found h))
 
@@ -100,48 +99,48 @@ record Failed (b : Bool) (row e r x : ℕ) : Type 0 where
   row_is : row ≡ r
   element_is : e ≡ x
 
-fails_at : (b : Bool) (row e r x : ℕ) → failing b row e ≡ At r x → Failed b row e r x
+fails_at : (b : Bool) (row e r x : ℕ) → failing b row e ≡ found_at r x → Failed b row e r x
 fails_at true row e r x h = absurd (true≢false (sym (ap is_found h)))
 fails_at false row e r x h = record { failed = refl; row_is = ap row_in h; element_is = ap element_in h }
   where
     row_in : Search → ℕ
-    row_in Nothing = 0
-    row_in (At a b) = a
+    row_in None = 0
+    row_in (Some p) = p.row
 
     element_in : Search → ℕ
-    element_in Nothing = 0
-    element_in (At a b) = b
+    element_in None = 0
+    element_in (Some p) = p.element
 
 module _ (t : Test) (wide : ℕ) where
   abbrev in_row : ℕ → Search
   in_row row = first_below wide (λ e. failing (t row e) row e)
 
-  row_clean : (row : ℕ) → ((e : ℕ) → e < wide → t row e ≡ true) → in_row row ≡ Nothing
+  row_clean : (row : ℕ) → ((e : ℕ) → e < wide → t row e ≡ true) → in_row row ≡ None
   row_clean row h = none_all wide (λ e. failing (t row e) row e) (λ e l. fails_not (t row e) row e (h e l))
 
   -- all pass: nothing is found
-  pub clean_none : (h : ℕ) → Clean t wide h → first_failing t wide h ≡ Nothing
+  pub clean_none : (h : ℕ) → Clean t wide h → first_failing t wide h ≡ None
   unfolding first_failing
   clean_none h c = none_all h in_row (λ row l. row_clean row (λ e k. c.clean row e l k))
 
   -- nothing is found: all pass
-  pub none_clean : (h : ℕ) → first_failing t wide h ≡ Nothing → Clean t wide h
+  pub none_clean : (h : ℕ) → first_failing t wide h ≡ None → Clean t wide h
   unfolding first_failing
   none_clean h n =
       record { clean = λ row e l k. passes_if (t row e) row e (none_at (λ x. failing (t row x) row x) wide (none_at in_row h n row l) e k) }
 
   -- THE LAW: the first wrong sample is the one that is found
-  pub first_found : (h row e : ℕ) → FirstWrong t wide h row e → first_failing t wide h ≡ At row e
+  pub first_found : (h row e : ℕ) → FirstWrong t wide h row e → first_failing t wide h ≡ found_at row e
   unfolding first_failing
   first_found h row e w =
-      let here : failing (t row e) row e ≡ At row e = ap (λ (b : Bool). failing b row e) w.wrong in
-      let left : first_below e (λ x. failing (t row x) row x) ≡ Nothing = none_all e (λ x. failing (t row x) row x) (λ x l. fails_not (t row x) row x (w.before x l)) in
-      let along : in_row row ≡ At row e = found_first (λ x. failing (t row x) row x) wide e w.inside left (ap is_found here) ∙ here in
-      let over : first_below row in_row ≡ Nothing = none_all row in_row (λ r l. row_clean r (λ x k. w.above.clean r x l k)) in
+      let here : failing (t row e) row e ≡ found_at row e = ap (λ (b : Bool). failing b row e) w.wrong in
+      let left : first_below e (λ x. failing (t row x) row x) ≡ None = none_all e (λ x. failing (t row x) row x) (λ x l. fails_not (t row x) row x (w.before x l)) in
+      let along : in_row row ≡ found_at row e = found_first (λ x. failing (t row x) row x) wide e w.inside left (ap is_found here) ∙ here in
+      let over : first_below row in_row ≡ None = none_all row in_row (λ r l. row_clean r (λ x k. w.above.clean r x l k)) in
       found_first in_row h row w.below over (ap is_found along) ∙ along
 
   -- and what is found is the first wrong sample
-  pub found_wrong : (h row e : ℕ) → first_failing t wide h ≡ At row e → FirstWrong t wide h row e
+  pub found_wrong : (h row e : ℕ) → first_failing t wide h ≡ found_at row e → FirstWrong t wide h row e
   unfolding first_failing
   found_wrong h row e n =
       let r = found_where h in_row row e n in

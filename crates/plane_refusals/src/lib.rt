@@ -9,38 +9,45 @@ ghost use Rattle.frames.specs.Tests.{Sized, Laid, LaidOut};
 
 use formed_search::first_malformed;
 use layout_verdict::layout_verdict;
-use rules::{Frame, Refusal, Search, Settings, Verdict};
+use rules::{Frame, Refusal, Settings};
 use walks::place_of;
 
 // Refusal 13 of planes that 7, 12, 8 and 9 pass: luma is searched first, and chroma only where all of luma is well formed.
-fn formed_verdict(s: Settings, f: Frame, luma: &[u16], chroma: &[u16], rgb: usize) -> Verdict
+fn formed_verdict(
+    s: Settings,
+    f: Frame,
+    luma: &[u16],
+    chroma: &[u16],
+    rgb: usize,
+) -> Result<(), Refusal>
     requires reach { Reach s }
     requires sized { (Sized f) × (Laid s f rgb (length luma.now) (length chroma.now)) }
     ensures { line_of result ≡ malformed_line (malformed s f luma.now chroma.now) }
 {
     let subsampling = s.subsampling;
-    let in_luma = first_malformed(s, f.luma_stride, f.width, f.height, luma);
-    if let Search::At(row, element) = in_luma {
-        return Verdict::Refuses(Refusal::Malformed(place_of(0, row, element)));
+    if let Some(found) = first_malformed(s, f.luma_stride, f.width, f.height, luma) {
+        return Err(Refusal::Malformed(place_of(0, found)));
     }
     let wide = blocks::chroma_width(subsampling, f.width);
     let rows = blocks::chroma_height(subsampling, f.height);
-    let in_chroma = first_malformed(s, f.chroma_stride, wide, rows, chroma);
-    if let Search::At(row, element) = in_chroma {
-        return Verdict::Refuses(Refusal::Malformed(place_of(1, row, element)));
+    if let Some(found) = first_malformed(s, f.chroma_stride, wide, rows, chroma) {
+        return Err(Refusal::Malformed(place_of(1, found)));
     }
-    Verdict::Passes
+    Ok(())
 }
 
 // The first of refusals 7, 12, 8, 9 and 13 that applies, or none.
-pub fn planes_verdict(s: Settings, f: Frame, luma: &[u16], chroma: &[u16], rgb: usize) -> Verdict
+pub fn planes_verdict(
+    s: Settings,
+    f: Frame,
+    luma: &[u16],
+    chroma: &[u16],
+    rgb: usize,
+) -> Result<(), Refusal>
     requires { Reach s }
     ensures exact { line_of result ≡ first (plane_lines s f luma.now chroma.now rgb) }
     ensures laid { LaidOut s f rgb (length luma.now) (length chroma.now) result }
 {
-    let layout = layout_verdict(s, f, rgb, luma.len(), chroma.len());
-    match layout {
-        Verdict::Refuses(r) => Verdict::Refuses(r),
-        Verdict::Passes => formed_verdict(s, f, luma, chroma, rgb),
-    }
+    layout_verdict(s, f, rgb, luma.len(), chroma.len())?;
+    formed_verdict(s, f, luma, chroma, rgb)
 }

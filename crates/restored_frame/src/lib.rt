@@ -1,4 +1,5 @@
-// The frame loop of the way back: row parts of both planes, and of the buffer from the window's corner on, lent to the row function.
+// The frame loop of the way back: row parts of both planes, and of the buffer from the window's corner on, lent to the row function. Two
+// functions share the planes' facts, so that a struct for them would be no plainer.
 #![tactic(auto)]
 
 ghost use Rattle.std.specs.Prelude.{◌≡◌, ◌+◌, ◌*◌, ◌^◌, ◌<◌, length};
@@ -36,16 +37,13 @@ fn lend_row(
     requires row_lt_height { row < f.height }
     ensures { Grows f.source_stride (f.width * count s.channels) row (row + 1) (restored_row s w f luma.now chroma.now) rest.old rest.new }
 {
-    let channels = s.channels;
-    let subsampling = s.subsampling;
-    let width = f.width;
-    let y = plane_row(luma, f.luma_stride, width, row);
-    let wide = blocks::chroma_width(subsampling, width);
-    let over = blocks::chroma_row(subsampling, row);
+    let y = plane_row(luma, f.luma_stride, f.width, row);
+    let wide = blocks::chroma_width(s.subsampling, f.width);
+    let over = blocks::chroma_row(s.subsampling, row);
     let c = plane_row(chroma, f.chroma_stride, wide, over);
     let start = row * f.source_stride;
-    let end = start + width * get_channels_count(channels);
-    restore_row(s, r, width, y, c, &mut rest[start..end]);
+    let end = start + f.width * get_channels_count(s.channels);
+    restore_row(s, r, f.width, y, c, &mut rest[start..end]);
 }
 
 // All rows of the window.
@@ -62,10 +60,8 @@ fn restore_rows(
     requires readable { (Readable s f luma.now chroma.now) × (RestRows s f (length rest.old)) }
     ensures { rest.new ≡ written f.source_stride (f.width * count s.channels) f.height (restored_row s w f luma.now chroma.now) rest.old }
 {
-    let mut row = 0;
-    while row < f.height {
+    for row in 0..f.height {
         lend_row(s, w, r, f, row, luma, chroma, rest);
-        row += 1;
     }
 }
 
@@ -82,8 +78,7 @@ pub fn restore_frame(
     requires readable { (Readable s f luma.now chroma.now) × (Strided s f) × (WindowRows s.channels f (length rgb.old)) }
     ensures { rgb.new ≡ rgb_written s.channels (most s.depth) f (restored_picture s w f luma.now chroma.now) rgb.old }
 {
-    let channels = s.channels;
     let r = restoring_weights(s, w);
-    let corner = f.first_row * f.source_stride + f.first_column * get_channels_count(channels);
+    let corner = f.first_row * f.source_stride + f.first_column * get_channels_count(s.channels);
     restore_rows(s, w, r, f, luma, chroma, &mut rgb[corner..]);
 }

@@ -10,28 +10,13 @@ ghost use Rattle.restored_pixels.specs.Terms.{chroma_terms, pixel_by, SmallTerms
 use restoring_weights::{RestoringWeights, weigh};
 use rules::Pixel;
 
-// What a chroma pair adds to the sums of a pixel's first element, of green and of its third.
+// What a chroma pair adds to the sums of a pixel's first element, of green and of its third. SmallTerms stands in clauses: as a ghost
+// field it would need a proof in `chroma_terms` of specs/, which takes any weights.
 #[derive(Clone, Copy)]
 pub struct ChromaTerms {
     pub first: i64,
     pub green: i64,
     pub third: i64,
-}
-
-// A number plus a weight times a word.
-fn plus_weighed(start: i64, weight: i64, word: u16) -> i64
-    requires { (nat_abs start ≤ 2199023255552) × (nat_abs weight ≤ 2097152) }
-    ensures { (result ≡ start +ℤ weight *ℤ pos word) × (nat_abs result ≤ nat_abs start + 137438953472) }
-{
-    start + weigh(weight, word as u32)
-}
-
-// The same, subtracted.
-fn less_weighed(start: i64, weight: i64, word: u16) -> i64
-    requires { (nat_abs start ≤ 2199023255552) × (nat_abs weight ≤ 2097152) }
-    ensures { (result ≡ start -ℤ weight *ℤ pos word) × (nat_abs result ≤ nat_abs start + 137438953472) }
-{
-    start - weigh(weight, word as u32)
 }
 
 pub fn chroma_terms(r: RestoringWeights, a: u16, b: u16) -> ChromaTerms
@@ -40,54 +25,10 @@ pub fn chroma_terms(r: RestoringWeights, a: u16, b: u16) -> ChromaTerms
 {
     let x = r.first;
     let z = r.third;
-    let first = plus_weighed(x.start, x.own, a);
-    let green = less_weighed(less_weighed(r.green_start, x.green, a), z.green, b);
-    let third = plus_weighed(z.start, z.own, b);
     ChromaTerms {
-        first,
-        green,
-        third,
-    }
-}
-
-// v held to 0 to m.
-fn held(m: u16, v: i64) -> u16
-    ensures { result ≡ held m v }
-{
-    if v < 0 {
-        return 0;
-    }
-    if v > (m as i64) {
-        return m;
-    }
-    v as u16
-}
-
-// Whether all three are 0 to m = 2^n - 1: a number that is not has a bit outside m, and a negative one has many.
-fn all_up_to(depth: u32, m: u16, a: i64, b: i64, c: i64) -> bool
-    requires { (depth ≤ 16) × (m ≡ 2 ^ depth - 1) }
-    ensures { OnlyUpTo m a b c result }
-{
-    let outside = -1 - (m as i64);
-    (a | b | c) & outside == 0
-}
-
-// The three colour elements; few pixels leave 0 to m, so that one test for all three is the shortest.
-fn held_pixel(depth: u32, m: u16, a: i64, b: i64, c: i64) -> Pixel
-    requires { (depth ≤ 16) × (m ≡ 2 ^ depth - 1) }
-    ensures { result ≡ record { red = held m a; green = held m b; blue = held m c } }
-{
-    if all_up_to(depth, m, a, b, c) {
-        return Pixel {
-            red: a as u16,
-            green: b as u16,
-            blue: c as u16,
-        };
-    }
-    Pixel {
-        red: held(m, a),
-        green: held(m, b),
-        blue: held(m, c),
+        first: x.start + weigh(x.own, u32::from(a)),
+        green: r.green_start - weigh(x.green, u32::from(a)) - weigh(z.green, u32::from(b)),
+        third: z.start + weigh(z.own, u32::from(b)),
     }
 }
 
@@ -99,15 +40,60 @@ fn divided(luma: i64, chroma: i64) -> i64
     (luma + chroma) >> 19
 }
 
+// The greatest code of a depth.
+#[derive(Clone, Copy)]
+struct Greatest {
+    depth: u32,
+    code: u16,
+    ghost deep: { depth ≤ 16 },
+    ghost whole: { code ≡ 2 ^ depth - 1 },
+}
+
+impl Greatest {
+    // v held to 0 to the greatest code.
+    fn held(self, v: i64) -> u16
+        ensures { result ≡ held self.code v }
+    {
+        v.clamp(0, i64::from(self.code)) as u16
+    }
+
+    // Whether all three are 0 to 2^n - 1: a number that is not has a bit outside that, and a negative one has many.
+    fn all_up_to(self, a: i64, b: i64, c: i64) -> bool
+        ensures { OnlyUpTo self.code a b c result }
+    {
+        let outside = -1 - i64::from(self.code);
+        (a | b | c) & outside == 0
+    }
+
+    // The three colour elements; few pixels leave 0 to the greatest code, so that one test for all three is the shortest.
+    fn held_pixel(self, a: i64, b: i64, c: i64) -> Pixel
+        ensures { result ≡ record { red = held self.code a; green = held self.code b; blue = held self.code c } }
+    {
+        if self.all_up_to(a, b, c) {
+            return Pixel {
+                red: a as u16,
+                green: b as u16,
+                blue: c as u16,
+            };
+        }
+        Pixel {
+            red: self.held(a),
+            green: self.held(b),
+            blue: self.held(c),
+        }
+    }
+}
+
 // The elements of a pixel as they stand in the buffer, as if that were Rgb.
 pub fn pixel_by(depth: u32, m: u16, r: RestoringWeights, y: u16, chroma: ChromaTerms) -> Pixel
     requires depth_bound { (depth ≤ 16) × (m ≡ 2 ^ depth - 1) }
     requires small_weights { (SmallWeights r) × (SmallTerms chroma) }
     ensures { result ≡ pixel_by m r y chroma }
 {
-    let luma = weigh(r.luma, y as u32);
+    let greatest = Greatest { depth, code: m };
+    let luma = weigh(r.luma, u32::from(y));
     let first = divided(luma, chroma.first);
     let green = divided(luma, chroma.green);
     let third = divided(luma, chroma.third);
-    held_pixel(depth, m, first, green, third)
+    greatest.held_pixel(first, green, third)
 }

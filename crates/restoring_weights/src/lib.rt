@@ -5,7 +5,7 @@
 ghost use Rattle.std.specs.Prelude.{◌≡◌, ◌-◌, ◌*◌, ◌^◌, ◌≤◌, pos, nat_abs, ◌*ℤ◌};
 ghost use Rattle.rule_laws.specs.Usable.{Reach};
 ghost use Rattle.inverse_bounds.specs.Bounds.{InverseWithin};
-ghost use Rattle.restoring_weights.specs.RestoringWeights.{cr_side, cb_side, first_side, third_side, scale_of, outer_weights, restoring_weights, SmallOuter, SmallWeights};
+ghost use Rattle.restoring_weights.specs.RestoringWeights.{first_side, third_side, scale_of, outer_weights, restoring_weights, SmallOuter, SmallWeights};
 
 use rules::{InverseWeights, Settings, YuvNVOrder, YuvSourceChannels};
 use yuv_support::{channels, ranges};
@@ -27,6 +27,7 @@ pub struct OuterWeights {
     pub start: i64,
 }
 
+// SmallWeights stands in clauses: as a ghost field it would need a proof in `restoring_weights` of specs/, which takes any weights.
 #[derive(Clone, Copy)]
 pub struct RestoringWeights {
     pub luma: i64,
@@ -35,48 +36,27 @@ pub struct RestoringWeights {
     pub green_start: i64,
 }
 
-fn cr_side(order: YuvNVOrder, w: InverseWeights) -> ChromaSide
-    ensures { result ≡ cr_side order w }
+// The sides of a pixel's first and third element: red stands first in Rgb and Rgba, blue in Bgr and Bgra.
+fn sides(
+    channels: YuvSourceChannels,
+    order: YuvNVOrder,
+    w: InverseWeights,
+) -> (ChromaSide, ChromaSide)
+    ensures { result ≡ (first_side channels order w, third_side channels order w) }
 {
-    let at = channels::get_v_position(order);
-    ChromaSide {
-        at,
+    let cr = ChromaSide {
+        at: channels::get_v_position(order),
         own: w.cr_coef,
         green: w.g_coeff_1,
-    }
-}
-
-fn cb_side(order: YuvNVOrder, w: InverseWeights) -> ChromaSide
-    ensures { result ≡ cb_side order w }
-{
-    let at = channels::get_u_position(order);
-    ChromaSide {
-        at,
+    };
+    let cb = ChromaSide {
+        at: channels::get_u_position(order),
         own: w.cb_coef,
         green: w.g_coeff_2,
-    }
-}
-
-// The side of a pixel's first element: red stands first in Rgb and Rgba, blue in Bgr and Bgra.
-fn first_side(channels: YuvSourceChannels, order: YuvNVOrder, w: InverseWeights) -> ChromaSide
-    ensures { result ≡ first_side channels order w }
-{
+    };
     match channels {
-        YuvSourceChannels::Rgb => cr_side(order, w),
-        YuvSourceChannels::Rgba => cr_side(order, w),
-        YuvSourceChannels::Bgra => cb_side(order, w),
-        YuvSourceChannels::Bgr => cb_side(order, w),
-    }
-}
-
-fn third_side(channels: YuvSourceChannels, order: YuvNVOrder, w: InverseWeights) -> ChromaSide
-    ensures { result ≡ third_side channels order w }
-{
-    match channels {
-        YuvSourceChannels::Rgb => cb_side(order, w),
-        YuvSourceChannels::Rgba => cb_side(order, w),
-        YuvSourceChannels::Bgra => cr_side(order, w),
-        YuvSourceChannels::Bgr => cr_side(order, w),
+        YuvSourceChannels::Rgb | YuvSourceChannels::Rgba => (cr, cb),
+        YuvSourceChannels::Bgra | YuvSourceChannels::Bgr => (cb, cr),
     }
 }
 
@@ -85,8 +65,7 @@ fn scale_of(s: Settings) -> u32
     requires { Reach s }
     ensures { (result ≡ scale_of s) × (result * 2 ^ s.precision ≤ 524288) }
 {
-    let packing = s.packing;
-    (1u32 << (13 - s.precision)) * (64 / (storage::packing_factor(packing, s.depth) as u32))
+    (1u32 << (13 - s.precision)) * (64 / u32::from(storage::packing_factor(s.packing, s.depth)))
 }
 
 // What each sum gets before it is divided, scaled: one less than a half, so that exact halves go down.
@@ -102,15 +81,15 @@ pub fn weigh(weight: i64, n: u32) -> i64
     requires { (nat_abs weight ≤ 2097152) × (n ≤ 262144) }
     ensures { (result ≡ weight *ℤ pos n) × (nat_abs result ≤ nat_abs weight * n) }
 {
-    weight * (n as i64)
+    weight * i64::from(n)
 }
 
-// A weight times the scale.
+// A weight times the scale. Not `weigh`: that bounds both numbers, and here only the product is known to be small.
 fn scaled(weight: i32, scale: u32) -> i64
     requires { nat_abs weight * scale ≤ 2097152 }
     ensures { (result ≡ weight *ℤ pos scale) × (nat_abs result ≤ 2097152) }
 {
-    (weight as i64) * (scale as i64)
+    i64::from(weight) * i64::from(scale)
 }
 
 fn outer_weights(scale: u32, bias: u32, start: i64, side: ChromaSide) -> OuterWeights
@@ -133,18 +112,15 @@ pub fn restoring_weights(s: Settings, w: InverseWeights) -> RestoringWeights
     requires inverse_within { InverseWithin (4 * 2 ^ s.precision) w }
     ensures { (result ≡ restoring_weights s w) × (SmallWeights result) }
 {
-    let channels = s.channels;
-    let order = s.order;
-    let packing = s.packing;
-    let range = s.range;
     let scale = scale_of(s);
-    let g = ranges::get_yuv_range(s.depth, range);
-    let factor = storage::packing_factor(packing, s.depth) as u32;
+    let g = ranges::get_yuv_range(s.depth, s.range);
+    let factor = u32::from(storage::packing_factor(s.packing, s.depth));
     let bias = g.bias_uv * factor;
     let luma = scaled(w.y_coef, scale);
-    let start = (rounding(s.precision) as i64) - weigh(luma, g.bias_y * factor);
-    let first = outer_weights(scale, bias, start, first_side(channels, order, w));
-    let third = outer_weights(scale, bias, start, third_side(channels, order, w));
+    let start = i64::from(rounding(s.precision)) - weigh(luma, g.bias_y * factor);
+    let (one, two) = sides(s.channels, s.order, w);
+    let first = outer_weights(scale, bias, start, one);
+    let third = outer_weights(scale, bias, start, two);
     let green_start = start + weigh(first.green, bias) + weigh(third.green, bias);
     RestoringWeights {
         luma,

@@ -6,35 +6,19 @@ ghost use Rattle.std.specs.Prelude.{◌≤◌};
 
 use answer_numbers::RestoredNumbers;
 use cases::case::Case;
-use cases::draw::{Room, least};
-use cases::{case, draw, text};
-
-fn to_rgb_parts(c: Case, luma: &[u16], chroma: &[u16], rgb: &mut [u16]) -> RestoredNumbers
-    ensures { result.refusal ≤ 18 }
-{
-    ayresokum::ayresokum_to_rgb(case::settings_of(c), case::frame_of(c), luma, chroma, rgb)
-}
-
-fn to_rgb_first(c: Case, luma: &[u16], chroma: &[u16], rgb: &mut [u16]) -> RestoredNumbers
-    ensures { result.refusal ≤ 18 }
-{
-    let m = least(c.luma, luma.len());
-    let k = least(c.chroma, chroma.len());
-    let n = least(c.source, rgb.len());
-    to_rgb_parts(c, &luma[..m], &chroma[..k], &mut rgb[..n])
-}
+use cases::draw::{Room, within_room};
+use cases::{draw, text};
 
 pub fn to_rgb(c: Case, luma: &Room, chroma: &Room, rgb: &mut Room) -> RestoredNumbers
     ensures { result.refusal ≤ 18 }
 {
-    to_rgb_first(c, luma, chroma, rgb)
-}
-
-fn to_rgb_and_put(c: Case, luma: &Room, chroma: &Room, rgb: &mut Room) -> usize
-    ensures { result ≤ 65540 }
-{
-    text::restored(to_rgb(c, luma, chroma, rgb));
-    text::rgb(c, rgb)
+    ayresokum::ayresokum_to_rgb(
+        c.into(),
+        c.into(),
+        &luma[..within_room(c.luma)],
+        &chroma[..within_room(c.chroma)],
+        &mut rgb[..within_room(c.source)],
+    )
 }
 
 // Turns the planes back in a buffer of its own, which is filled with 7 before, and prints the answer and the buffer after; hands back how
@@ -43,5 +27,6 @@ pub fn run(c: Case, luma: &Room, chroma: &Room) -> usize
     ensures { result ≤ 65540 }
 {
     let mut rgb = draw::room(7);
-    to_rgb_and_put(c, luma, chroma, &mut rgb)
+    text::restored(to_rgb(c, luma, chroma, &mut rgb));
+    text::rgb(c, &rgb)
 }

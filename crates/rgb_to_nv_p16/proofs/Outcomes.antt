@@ -7,13 +7,12 @@ use lib.ListN.{length}
 use Rattle.rules.specs.declared.Settings.{Settings}
 use Rattle.rules.specs.declared.Weights.{Weights}
 use Rattle.rules.specs.declared.Frame.{Frame}
-use Rattle.rules.specs.declared.Converted.{Converted}
 use Rattle.rules.specs.declared.Pixel.{Pixel}
 use Rattle.rules.specs.declared.Component.TheVariants.{Y, Cb, Cr}
 use Rattle.rules.specs.Weights.{weights_of}
 use Rattle.rules.specs.Channels.{Picture, is_u}
 use Rattle.rules.specs.Blocks.{chroma_width, chroma_height}
-use Rattle.rules.specs.Refusals.{Line, first}
+use Rattle.rules.specs.Refusals.{Line, first, Verdict}
 use Rattle.rules.specs.Answers.{given, answer}
 use Rattle.rules.specs.Settle.{settle_lines}
 use Rattle.rules.specs.Convert.{sample_word, luma_word, chroma_word, kept, verdict, luma_written, chroma_written, convert, luma_after, chroma_after}
@@ -24,7 +23,7 @@ use Rattle.frames.proofs.Sources.{pictures, same_block, same_lines}
 use Rattle.rgb_to_nv_p16.specs.Outcomes.{Admitted}
 
 -- any two outcomes that convert's contract admits for one input are equal
-pub one_outcome : (s : Settings) (f : Frame) (source luma chroma : List ℕ) (a a' : Converted) (l l' c c' : List ℕ)
+pub one_outcome : (s : Settings) (f : Frame) (source luma chroma : List ℕ) (a a' : Verdict) (l l' c c' : List ℕ)
     → Admitted s f source luma chroma a l c → Admitted s f source luma chroma a' l' c' → (a ≡ a') × (l ≡ l') × (c ≡ c')
 one_outcome s f source luma chroma a a' l l' c c' p q =
     (one_converted a a' (p.answer_is ∙ sym q.answer_is), p.luma_is ∙ sym q.luma_is, p.chroma_is ∙ sym q.chroma_is)

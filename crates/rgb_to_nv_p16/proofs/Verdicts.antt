@@ -8,24 +8,14 @@ use Rattle.rules.specs.declared.Settings.{Settings}
 use Rattle.rules.specs.declared.Weights.{Weights}
 use Rattle.rules.specs.declared.Frame.{Frame}
 use Rattle.rules.specs.declared.Refusal.{Refusal}
-use Rattle.rules.specs.declared.Verdict.{Verdict}
-use Rattle.rules.specs.declared.Verdict.TheVariants.{Passes, Refuses}
 use Rattle.rules.specs.Weights.{weights_of}
-use Rattle.rules.specs.Refusals.{Line, refuses, line_of}
+use Rattle.rules.specs.Refusals.{number_of, values_of, Line, passes, refuses}
 use Rattle.rules.specs.Answers.{Answer, given, refused, answer, weight_values}
 use Rattle.rules.specs.Settle.{settle_lines, settle}
 use Rattle.rules.specs.Frames.{shown, frame_lines, frame_line}
 use Rattle.rules.specs.Convert.{kept, verdict, luma_written, chroma_written, convert, luma_after, chroma_after}
 use Rattle.rule_laws.proofs.Refusals.{passed_on, refused_before}
 use Rattle.rule_laws.proofs.Settling.{weighed_passes, refused_refuses}
-
--- ---- a plane, by a verdict that is known
-
-pub done : {v : Verdict} (new old : List ℕ) → v ≡ Passes → new ≡ kept (line_of v) new old
-done new old e = sym (ap (λ (x : Verdict). kept (line_of x) new old) e)
-
-pub left : {v : Verdict} {r : Refusal} (new old : List ℕ) → v ≡ Refuses r → old ≡ kept (line_of v) new old
-left new old e = sym (ap (λ (x : Verdict). kept (line_of x) new old) e)
 
 -- ---- the whole outcome
 
@@ -58,6 +48,16 @@ module _ (s : Settings) (f : Frame) (source luma chroma : List ℕ) where
       let h = passed_on (settle_lines s) (frame_lines s f source (length luma) (length chroma)) o.0 in
       let g = by_line framed h in
       (p ∙ sym h, (q ∙ ap (λ (x : Weights). kept framed (luma_by x) luma) (sym o.1) ∙ g.1.0, r ∙ ap (λ (x : Weights). kept framed (chroma_by x) chroma) (sym o.1) ∙ g.1.1))
+
+  -- they refuse: both planes are as they were
+  pub refused_frame : (w : Weights) → given (weight_values w) ≡ settle s → (r : Refusal) → refuses (number_of r) (values_of r) ≡ framed
+      → (refuses (number_of r) (values_of r) ≡ verdict s f source luma chroma) × ((luma ≡ luma_after s f source luma chroma) × (chroma ≡ chroma_after s f source luma chroma))
+  refused_frame w e r h = weighed w e h (ap (λ (k : Line). kept k (luma_by w) luma) h) (ap (λ (k : Line). kept k (chroma_by w) chroma) h)
+
+  -- they pass: both planes are written
+  pub passed_frame : (w : Weights) → given (weight_values w) ≡ settle s → passes ≡ framed → {l c : List ℕ} → l ≡ luma_by w → c ≡ chroma_by w
+      → (passes ≡ verdict s f source luma chroma) × ((l ≡ luma_after s f source luma chroma) × (c ≡ chroma_after s f source luma chroma))
+  passed_frame w e h q r = weighed w e h (q ∙ ap (λ (k : Line). kept k (luma_by w) luma) h) (r ∙ ap (λ (k : Line). kept k (chroma_by w) chroma) h)
 
   -- the answer that a verdict stands for
   pub answered : {a : Answer} {l : Line} → a ≡ answer l (given []) → l ≡ verdict s f source luma chroma → a ≡ convert s f source luma chroma

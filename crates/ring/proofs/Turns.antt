@@ -1,5 +1,6 @@
 -- The frames of a ring in turn: what a turn adds, and where the turns end. Assumes nothing.
-use mathlib.Core.Path.{◌≡◌, refl, sym, ap, ◌∙◌, subst, subst⁻¹}
+use Rattle.std.proofs.Common.{Ok, Err}
+use mathlib.Core.Path.{◌≡◌, refl, sym, ap, ◌∙◌, subst⁻¹}
 use mathlib.Core.Bool.{true, false, true≢false}
 use mathlib.Core.List.{List, [], ◌++◌, append_assoc}
 use Prim.Native.Nat.{ℕ, suc, ◌+◌, ◌-◌, ◌*◌, ◌≤◌, ◌<◌}
@@ -8,10 +9,9 @@ use native.Mathlib.Omega.{arith}
 use lib.ListN.{length, take, drop, take-append-drop}
 use Rattle.rules.specs.declared.Settings.{Settings}
 use Rattle.rules.specs.declared.Frame.{Frame}
-use Rattle.rules.specs.declared.Verdict.{Verdict}
-use Rattle.rules.specs.declared.Verdict.TheVariants.{Passes}
 use Rattle.rules.specs.declared.Ringed.{Ringed}
-use Rattle.rules.specs.Refusals.{Line, passes, refuses, line_of}
+use Rattle.rules.specs.declared.Refusal.{Refusal}
+use Rattle.rules.specs.Refusals.{Line, passes, refuses, line_of, Verdict}
 use Rattle.rules.specs.Frames.{source_size, luma_size, chroma_size}
 use Rattle.rules.specs.Convert.{verdict, luma_after, chroma_after}
 use Rattle.rules.specs.Ring.{Outcome, untouched, one_then, unless, in_turn}
@@ -20,7 +20,7 @@ use Rattle.plane_laws.proofs.Planes.{length_put}
 use Rattle.ring_parts.specs.Parts.{Turns}
 use Rattle.ring_parts.proofs.Frames.{luma_long, chroma_long, luma_kept, chroma_kept}
 use Rattle.ring_parts.proofs.Parts.{drop_next, put_same, length_part, take_put, drop_put}
-use Rattle.ring_answers.specs.RingAnswers.{refusing, ringed}
+use Rattle.ring.specs.RingAnswers.{refusing, ringed}
 use Rattle.ring.specs.Outcomes.{ComesTo}
 
 -- ---- frames that were written before an outcome
@@ -59,6 +59,11 @@ module _ (l : Line) (h : refusing l ≡ true) where
       by : (k : Line) → verdict s f x y z ≡ k → refusing k ≡ true → (luma_after s f x y z ≡ y) × (chroma_after s f x y z ≡ z)
       by passes d q = absurd (true≢false (sym q))
       by (refuses n v) d q = (luma_kept s f x y z d, chroma_kept s f x y z d)
+
+-- a verdict that is no refusal passes
+pub passing : (r : Verdict) → ((q : Refusal) → r ≡ Err q → ⊥) → refusing (line_of r) ≡ false
+passing (Ok u) h = refl
+passing (Err q) h = absurd (h q refl)
 
 -- an answer by another name
 pub named : {o : Outcome} {r q : Ringed} {l c : List ℕ} → r ≡ q → ComesTo o q l c → ComesTo o r l c
@@ -122,7 +127,7 @@ module _ (s : Settings) (f : Frame) (count : ℕ) (source luma₀ chroma₀ : Li
         ∙ outcome (omega arith) refl (take-append-drop (i * luma_size f) luma) (take-append-drop (i * chroma_size s f) chroma)
 
     -- every frame is written
-    pub all_written : i ≡ count → ComesTo (in_turn count s f source luma₀ chroma₀) (ringed i Passes) luma chroma
+    pub all_written : i ≡ count → ComesTo (in_turn count s f source luma₀ chroma₀) (ringed i (Ok tt)) luma chroma
     unfolding in_turn
     all_written h =
         let k : count - i ≡ 0 = omega arith in

@@ -1,17 +1,28 @@
 // A ring: frames laid end to end in the source and in both planes, converted one after the other up to the first that is refused.
 #![tactic(auto)]
 
-ghost use Rattle.std.specs.Prelude.{◌≡◌, length};
+ghost use Rattle.std.specs.Prelude.{◌≡◌, ◌≤◌, length};
 ghost use Rattle.rules.specs.Answers.{ringed_answer};
 ghost use Rattle.rules.specs.Ring.{in_turn, convert_ring};
 ghost use Rattle.settle.specs.Promised.{HandedOut};
 ghost use Rattle.ring_refusals.specs.EndToEnd.{EndToEnd};
 ghost use Rattle.ring.specs.Outcomes.{ComesTo};
+ghost use Rattle.ring.specs.RingAnswers.{ringed};
 
-use ring_answers::{ends, ringed};
 use ring_parts::convert_part;
-use rules::{Frame, Ringed, Settings, Settled, Verdict, Weights};
+use rules::{Frame, Refusal, Ringed, Settings, Weights};
 use settle::settle;
+
+// The answer by so many frames written and how the ring ended.
+fn ringed(written: usize, ended: Result<(), Refusal>) -> Ringed
+    requires { written ≤ 64 }
+    ensures { result ≡ ringed written ended }
+{
+    Ringed {
+        written: written as u32,
+        ended,
+    }
+}
 
 // One frame after the other, up to the first that is refused.
 fn convert_each(
@@ -27,15 +38,12 @@ fn convert_each(
     requires end_to_end { EndToEnd s f count (length source.now) (length luma.old) (length chroma.old) }
     ensures { ComesTo (in_turn count s f source.now luma.old chroma.old) result luma.new chroma.new }
 {
-    let mut written = 0;
-    while written < count {
-        let verdict = convert_part(s, w, f, written, source, luma, chroma);
-        if ends(verdict) {
-            return ringed(written, verdict);
+    for written in 0..count {
+        if let Err(refusal) = convert_part(s, w, f, written, source, luma, chroma) {
+            return ringed(written, Err(refusal));
         }
-        written += 1;
     }
-    ringed(written, Verdict::Passes)
+    ringed(count, Ok(()))
 }
 
 // Converts a ring by the weights of its settings: what all frames together are asked comes before the first is written.
@@ -51,11 +59,10 @@ fn ring_settled(
     requires { HandedOut s w }
     ensures { ComesTo (convert_ring s f count source.now luma.old chroma.old) result luma.new chroma.new }
 {
-    let verdict = ring_refusals::ring_verdict(s, f, count, source.len(), luma.len(), chroma.len());
-    if ends(verdict) {
-        return ringed(0, verdict);
+    match ring_refusals::ring_verdict(s, f, count, source.len(), luma.len(), chroma.len()) {
+        Err(refusal) => ringed(0, Err(refusal)),
+        Ok(()) => convert_each(s, w, f, count, source, luma, chroma),
     }
-    convert_each(s, w, f, count, source, luma, chroma)
 }
 
 // Settles the settings once, then converts the frames of a ring one after the other: how many were written, and the refusal that
@@ -72,9 +79,8 @@ pub fn convert_ring(
     ensures luma { luma.new ≡ (convert_ring s f count source.now luma.old chroma.old).luma }
     ensures chroma { chroma.new ≡ (convert_ring s f count source.now luma.old chroma.old).chroma }
 {
-    let settled = settle(s);
-    match settled {
-        Settled::Refused(r) => ringed(0, Verdict::Refuses(r)),
-        Settled::Weighed(w) => ring_settled(s, w, f, count, source, luma, chroma),
+    match settle(s) {
+        Err(refusal) => ringed(0, Err(refusal)),
+        Ok(w) => ring_settled(s, w, f, count, source, luma, chroma),
     }
 }

@@ -6,8 +6,7 @@ use native.Mathlib.Nat.{add-sub_cancel_left}
 use lib.ListN.{take, drop}
 use Rattle.rules.specs.declared.Settings.{Settings}
 use Rattle.rules.specs.declared.Frame.{Frame}
-use Rattle.rules.specs.declared.Verdict.{Verdict}
-use Rattle.rules.specs.Refusals.{line_of}
+use Rattle.rules.specs.Refusals.{line_of, Verdict}
 use Rattle.rules.specs.Frames.{source_size, luma_size, chroma_size}
 use Rattle.rules.specs.Convert.{verdict, luma_after, chroma_after}
 use Rattle.plane_laws.specs.Parts.{put, part, put_part}

@@ -6,7 +6,7 @@ ghost use Rattle.settle.specs.Promised.{HandedOut};
 ghost use Rattle.ring_parts.specs.Parts.{Lies, Turns};
 
 use rgb_to_nv_p16::convert_settled;
-use rules::{Frame, Settings, Verdict, Weights};
+use rules::{Frame, Refusal, Settings, Weights};
 
 // Frame i is converted, or refused with its parts as they were.
 pub fn convert_part(
@@ -17,7 +17,7 @@ pub fn convert_part(
     source: &[u16],
     luma: &mut [u16],
     chroma: &mut [u16],
-) -> Verdict
+) -> Result<(), Refusal>
     requires handed_out { HandedOut s w }
     requires lies { Lies s f i (length source.now) (length luma.old) (length chroma.old) }
     ensures { Turns s f i source.now luma.old chroma.old result luma.new chroma.new }

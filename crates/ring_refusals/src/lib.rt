@@ -5,7 +5,7 @@ ghost use Rattle.std.specs.Prelude.{◌≡◌};
 ghost use Rattle.rules.specs.Refusals.{first, line_of};
 ghost use Rattle.rules.specs.Ring.{ring_lines};
 
-use rules::{Frame, Refusal, Settings, Verdict};
+use rules::{Frame, Refusal, Settings};
 
 // The first of refusals 7, 12, 8, 11 and 9 that applies to so many frames and buffers of these lengths, or none.
 pub fn ring_verdict(
@@ -15,23 +15,23 @@ pub fn ring_verdict(
     source: usize,
     luma: usize,
     chroma: usize,
-) -> Verdict
+) -> Result<(), Refusal>
     ensures { line_of result ≡ first (ring_lines s f count source luma chroma) }
 {
     if layout_refusals::size_off(f) {
-        return Verdict::Refuses(Refusal::Size);
+        return Err(Refusal::Size);
     }
     if layout_refusals::window_off(f) {
-        return Verdict::Refuses(Refusal::Window);
+        return Err(Refusal::Window);
     }
     if layout_refusals::stride_off(s, f) {
-        return Verdict::Refuses(Refusal::Stride);
+        return Err(Refusal::Stride);
     }
     if layout_refusals::count_off(count) {
-        return Verdict::Refuses(Refusal::Count);
+        return Err(Refusal::Count);
     }
     if layout_refusals::length_off(s, f, count, source, luma, chroma) {
-        return Verdict::Refuses(Refusal::Length);
+        return Err(Refusal::Length);
     }
-    Verdict::Passes
+    Ok(())
 }

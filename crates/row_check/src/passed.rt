@@ -3,73 +3,47 @@
 ghost use Rattle.std.specs.Prelude.{◌≡◌, ◌*◌, ◌≤◌, length};
 ghost use Rattle.rules.specs.Channels.{count};
 ghost use Rattle.rules.specs.Blocks.{chroma_width};
-ghost use Rattle.rule_laws.specs.Usable.{Reach};
-ghost use Rattle.check_limits.specs.Limits.{LimitsOf};
 ghost use Rattle.sample_check.specs.Samples.{luma_element_right, chroma_element_right};
 ghost use Rattle.gauges.specs.Prefixes.{Passed};
 ghost use Rattle.gauged_chroma.specs.Pairing.{RulerBounded};
 ghost use Rattle.row_check.specs.Rulers.{ruler_of};
 
-use check_limits::SettingsLimits;
+use check_limits::judge::Judge;
 use gauged_chroma::Ruler;
 use gauges::gauge;
-use rules::{Named, Settings};
 
 // Luma; `pixels` is the source row.
-pub fn luma_passed(
-    s: Settings,
-    k: Named,
-    limits: SettingsLimits,
-    width: usize,
-    pixels: &[u16],
-    luma: &[u16],
-) -> usize
-    requires reach { (Reach s) × (LimitsOf s k limits) }
-    requires width_in_bounds { (width ≤ length luma.now) × (width * count s.channels ≤ length pixels.now) }
-    ensures { Passed (luma_element_right s k pixels.now luma.now) width result }
+pub fn luma_passed(judge: Judge, width: usize, pixels: &[u16], luma: &[u16]) -> usize
+    requires width_in_bounds { (width ≤ length luma.now) × (width * count judge.settings.channels ≤ length pixels.now) }
+    ensures { Passed (luma_element_right judge.settings judge.named pixels.now luma.now) width result }
 {
-    if !formed_rows::all_formed(s, luma) {
+    if !formed_rows::all_formed(judge.settings, luma) {
         return 0;
     }
-    let channels = s.channels;
-    let endianness = s.endianness;
-    let packing = s.packing;
-    let ranges = limits.ranges;
-    let limit = limits.luma;
-    let factor = storage::packing_factor(packing, s.depth);
-    let h = gauge::shares_of(k, ranges.range_y, factor);
-    let g = gauge::gauge_of(ranges.bias_y, limit, factor);
-    gauged_luma::luma_run(channels, endianness, h, g, width, pixels, luma)
+    let s = judge.settings;
+    let ranges = judge.limits.ranges;
+    let factor = storage::packing_factor(s.packing, s.depth);
+    let h = gauge::shares_of(judge.named, ranges.range_y, factor);
+    let g = gauge::gauge_of(ranges.bias_y, judge.limits.luma, factor);
+    gauged_luma::luma_run(s.channels, s.endianness, h, g, width, pixels, luma)
 }
 
 // What the pairs of a chroma row are compared by, by whether their blocks have two rows.
-fn ruler_of(s: Settings, k: Named, limits: SettingsLimits, two: bool) -> Ruler
-    requires { (Reach s) × (LimitsOf s k limits) }
-    ensures { (result ≡ ruler_of s k limits two) × RulerBounded result }
+fn ruler_of(judge: Judge, two: bool) -> Ruler
+    ensures { (result ≡ ruler_of judge.settings judge.named judge.limits two) × RulerBounded result }
 {
-    let channels = s.channels;
-    let endianness = s.endianness;
-    let order = s.order;
-    let packing = s.packing;
-    let subsampling = s.subsampling;
+    let s = judge.settings;
+    let limits = judge.limits;
     let ranges = limits.ranges;
-    let factor = storage::packing_factor(packing, s.depth);
-    let wide = blocks::paired(subsampling);
-    let shares = gauge::shares_of(k, ranges.range_uv, factor);
-    let cb = gauge::gauge_of(
-        ranges.bias_uv,
-        check_limits::own_limit(limits, true, wide, two),
-        factor,
-    );
-    let cr = gauge::gauge_of(
-        ranges.bias_uv,
-        check_limits::own_limit(limits, false, wide, two),
-        factor,
-    );
+    let factor = storage::packing_factor(s.packing, s.depth);
+    let wide = blocks::paired(s.subsampling);
+    let shares = gauge::shares_of(judge.named, ranges.range_uv, factor);
+    let cb = gauge::gauge_of(ranges.bias_uv, limits.own_limit(true, wide, two), factor);
+    let cr = gauge::gauge_of(ranges.bias_uv, limits.own_limit(false, wide, two), factor);
     Ruler {
-        channels,
-        endianness,
-        order,
+        channels: s.channels,
+        endianness: s.endianness,
+        order: s.order,
         shares,
         cb,
         cr,
@@ -78,24 +52,28 @@ fn ruler_of(s: Settings, k: Named, limits: SettingsLimits, two: bool) -> Ruler
 
 // Chroma, a pair at a time; `top` and `low` are the source rows of its blocks, the same where these have one row.
 pub fn chroma_passed(
-    s: Settings,
-    k: Named,
-    limits: SettingsLimits,
+    judge: Judge,
     width: usize,
     two: bool,
     top: &[u16],
     low: &[u16],
     chroma: &[u16],
 ) -> usize
-    requires reach { (Reach s) × (LimitsOf s k limits) }
-    requires width_bound { (width ≤ 16384) × (chroma_width s.subsampling width ≤ length chroma.now) }
-    requires channels_in_bounds { (width * count s.channels ≤ length top.now) × (width * count s.channels ≤ length low.now) }
-    ensures { Passed (chroma_element_right s k width two top.now low.now chroma.now) (chroma_width s.subsampling width) result }
+    requires width_bound { (width ≤ 16384) × (chroma_width judge.settings.subsampling width ≤ length chroma.now) }
+    requires channels_in_bounds { (width * count judge.settings.channels ≤ length top.now) × (width * count judge.settings.channels ≤ length low.now) }
+    ensures { Passed (chroma_element_right judge.settings judge.named width two top.now low.now chroma.now) (chroma_width judge.settings.subsampling width) result }
 {
-    if !formed_rows::all_formed(s, chroma) {
+    if !formed_rows::all_formed(judge.settings, chroma) {
         return 0;
     }
-    let subsampling = s.subsampling;
-    let ruler = ruler_of(s, k, limits, two);
-    2 * gauged_chroma::chroma_run(subsampling, ruler, width, two, top, low, chroma)
+    let ruler = ruler_of(judge, two);
+    2 * gauged_chroma::chroma_run(
+        judge.settings.subsampling,
+        ruler,
+        width,
+        two,
+        top,
+        low,
+        chroma,
+    )
 }

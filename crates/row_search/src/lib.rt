@@ -8,19 +8,17 @@ ghost use Rattle.rules.specs.Frames.{channel_of};
 ghost use Rattle.row_search.specs.RowSamples.{sample_of};
 
 use frames::pixels;
-use rules::{Pixel, Search, YuvSourceChannels};
+use rules::{Found, Pixel, YuvSourceChannels};
 
 // Channel 0 of a pixel is red, 1 green and 2 blue.
 fn channel_of(channel: usize, p: Pixel) -> u16
     ensures { result ≡ channel_of channel p }
 {
-    if channel == 0 {
-        return p.red;
+    match channel {
+        0 => p.red,
+        1 => p.green,
+        _ => p.blue,
     }
-    if channel == 1 {
-        return p.green;
-    }
-    p.blue
 }
 
 // Colour sample i of a row part: red, green and blue of the first pixel, then of the next.
@@ -38,20 +36,18 @@ pub fn first_high(
     width: usize,
     row: usize,
     part: &[u16],
-) -> Search
+) -> Option<Found>
     requires { (width ≤ 16384) × (length part.now ≡ width * count channels) }
     ensures { result ≡ first_below (3 * width) (λ i. failing (leb (sample_of channels part.now i) m) row i) }
 {
-    if row_bounds::four_rows(channels, part, part, part, part) <= (m as u64) {
-        return Search::Nothing;
+    if row_bounds::four_rows(channels, part, part, part, part) <= u64::from(m) {
+        return None;
     }
     let samples = 3 * width;
-    let mut i = 0;
-    while i < samples {
-        if m < colour_sample(channels, part, width, i) {
-            return Search::At(row, i);
+    for element in 0..samples {
+        if m < colour_sample(channels, part, width, element) {
+            return Some(Found { row, element });
         }
-        i += 1;
     }
-    Search::Nothing
+    None
 }

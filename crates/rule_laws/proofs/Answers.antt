@@ -1,4 +1,5 @@
 -- An answer in the paper's terms stands for one case of its enumeration. Assumes nothing.
+use Rattle.std.proofs.Common.{Ok, Err, None, Some}
 use mathlib.Core.Path.{◌≡◌, refl, sym, ap, ◌∙◌}
 use mathlib.Core.List.{List, [], ◌∷◌}
 use Prim.Native.Nat.{ℕ, ◌-◌}
@@ -10,17 +11,9 @@ use Rattle.rules.specs.declared.Refusal.TheVariants.{Depth, Precision, CustomPai
 use Rattle.rules.specs.declared.SourcePlace.{SourcePlace}
 use Rattle.rules.specs.declared.Weights.{Weights}
 use Rattle.rules.specs.declared.Place.{Place}
-use Rattle.rules.specs.declared.Settled.{Settled}
-use Rattle.rules.specs.declared.Settled.TheVariants as settled
-use Rattle.rules.specs.declared.Converted.{Converted}
-use Rattle.rules.specs.declared.Converted.TheVariants as converted
-use Rattle.rules.specs.declared.Verdict.{Verdict}
-use Rattle.rules.specs.declared.Verdict.TheVariants.{Passes, Refuses}
 use Rattle.rules.specs.declared.Ringed.{Ringed}
-use Rattle.rules.specs.declared.Checked.{Checked}
-use Rattle.rules.specs.declared.Checked.TheVariants as checked
-use Rattle.rules.specs.Refusals.{number_of, place_values, values_of, Line, passes, refuses, line_of}
-use Rattle.rules.specs.Answers.{Answer, given, refused, answer, refusal, weight_values, settled_answer, converted_answer, RingAnswer, ringed_answer, checked_answer}
+use Rattle.rules.specs.Refusals.{number_of, place_values, values_of, Line, passes, refuses, line_of, Verdict}
+use Rattle.rules.specs.Answers.{Answer, given, refused, answer, refusal, weight_values, settled_answer, converted_answer, RingAnswer, ringed_answer, checked_answer, Settled, Checked}
 
 -- ---- a refusal by its number and values
 
@@ -93,22 +86,22 @@ place_back p = refl
 -- ---- THE THEOREMS: two cases that stand for one answer are one
 
 pub one_settled : (a b : Settled) → settled_answer a ≡ settled_answer b → a ≡ b
-one_settled (settled.Weighed v) (settled.Weighed w) e = ap settled.Weighed (same_weights v w e)
-one_settled (settled.Refused q) (settled.Refused r) e = ap settled.Refused (same_refusal q r e)
-one_settled (settled.Weighed v) (settled.Refused r) e = absurd (let z : ◌≡◌ {A = ℕ} 0 1 = cc in omega arith)
-one_settled (settled.Refused q) (settled.Weighed w) e = absurd (let z : ◌≡◌ {A = ℕ} 0 1 = cc in omega arith)
+one_settled (Ok v) (Ok w) e = ap Ok (same_weights v w e)
+one_settled (Err q) (Err r) e = ap Err (same_refusal q r e)
+one_settled (Ok v) (Err r) e = absurd (let z : ◌≡◌ {A = ℕ} 0 1 = cc in omega arith)
+one_settled (Err q) (Ok w) e = absurd (let z : ◌≡◌ {A = ℕ} 0 1 = cc in omega arith)
 
-pub one_converted : (a b : Converted) → converted_answer a ≡ converted_answer b → a ≡ b
-one_converted converted.Done converted.Done e = refl
-one_converted (converted.Refused q) (converted.Refused r) e = ap converted.Refused (same_refusal q r e)
-one_converted converted.Done (converted.Refused r) e = absurd (let z : ◌≡◌ {A = ℕ} 0 1 = cc in omega arith)
-one_converted (converted.Refused q) converted.Done e = absurd (let z : ◌≡◌ {A = ℕ} 0 1 = cc in omega arith)
+pub one_converted : (a b : Verdict) → converted_answer a ≡ converted_answer b → a ≡ b
+one_converted (Ok u) (Ok v) e = refl
+one_converted (Err q) (Err r) e = ap Err (same_refusal q r e)
+one_converted (Ok u) (Err r) e = absurd (let z : ◌≡◌ {A = ℕ} 0 1 = cc in omega arith)
+one_converted (Err q) (Ok u) e = absurd (let z : ◌≡◌ {A = ℕ} 0 1 = cc in omega arith)
 
 one_verdict : (a b : Verdict) → line_of a ≡ line_of b → a ≡ b
-one_verdict Passes Passes e = refl
-one_verdict (Refuses q) (Refuses r) e = ap Refuses (same_refusal q r (ap (λ (l : Line). answer l (given [])) e))
-one_verdict Passes (Refuses r) e = absurd (let z : ◌≡◌ {A = ℕ} 0 1 = cc in omega arith)
-one_verdict (Refuses q) Passes e = absurd (let z : ◌≡◌ {A = ℕ} 0 1 = cc in omega arith)
+one_verdict (Ok u) (Ok v) e = refl
+one_verdict (Err q) (Err r) e = ap Err (same_refusal q r (ap (λ (l : Line). answer l (given [])) e))
+one_verdict (Ok u) (Err r) e = absurd (let z : ◌≡◌ {A = ℕ} 0 1 = cc in omega arith)
+one_verdict (Err q) (Ok u) e = absurd (let z : ◌≡◌ {A = ℕ} 0 1 = cc in omega arith)
 
 pub one_ringed : (a b : Ringed) → ringed_answer a ≡ ringed_answer b → a ≡ b
 one_ringed a b e =
@@ -117,17 +110,22 @@ one_ringed a b e =
     λ i. record { written = w i; ended = v i }
 
 pub one_checked : (a b : Checked) → checked_answer a ≡ checked_answer b → a ≡ b
-one_checked checked.Accepted checked.Accepted e = refl
-one_checked (checked.Wrong p) (checked.Wrong q) e = ap checked.Wrong (sym (place_back p) ∙ ap (λ (x : Answer). place_in (values_in x)) e ∙ place_back q)
-one_checked (checked.Refused q) (checked.Refused r) e = ap checked.Refused (same_refusal q r e)
-one_checked checked.Accepted (checked.Wrong q) e = absurd (let z : ◌≡◌ {A = ℕ} 0 1 = cc in omega arith)
-one_checked (checked.Wrong p) checked.Accepted e = absurd (let z : ◌≡◌ {A = ℕ} 0 1 = cc in omega arith)
-one_checked checked.Accepted (checked.Refused r) e = absurd (let z : ◌≡◌ {A = ℕ} 0 1 = cc in omega arith)
-one_checked (checked.Refused q) checked.Accepted e = absurd (let z : ◌≡◌ {A = ℕ} 0 1 = cc in omega arith)
-one_checked (checked.Wrong p) (checked.Refused r) e = absurd (let z : ◌≡◌ {A = ℕ} 0 1 = cc in omega arith)
-one_checked (checked.Refused q) (checked.Wrong p) e = absurd (let z : ◌≡◌ {A = ℕ} 0 1 = cc in omega arith)
+one_checked (Ok None) (Ok None) e = refl
+one_checked (Ok (Some p)) (Ok (Some q)) e = ap (λ (x : Place). Ok (Some x)) (sym (place_back p) ∙ ap (λ (x : Answer). place_in (values_in x)) e ∙ place_back q)
+one_checked (Err q) (Err r) e = ap Err (same_refusal q r e)
+one_checked (Ok None) (Ok (Some q)) e = absurd (let z : ◌≡◌ {A = ℕ} 0 1 = cc in omega arith)
+one_checked (Ok (Some p)) (Ok None) e = absurd (let z : ◌≡◌ {A = ℕ} 0 1 = cc in omega arith)
+one_checked (Ok None) (Err r) e = absurd (let z : ◌≡◌ {A = ℕ} 0 1 = cc in omega arith)
+one_checked (Err q) (Ok None) e = absurd (let z : ◌≡◌ {A = ℕ} 0 1 = cc in omega arith)
+one_checked (Ok (Some p)) (Err r) e = absurd (let z : ◌≡◌ {A = ℕ} 0 1 = cc in omega arith)
+one_checked (Err q) (Ok (Some p)) e = absurd (let z : ◌≡◌ {A = ℕ} 0 1 = cc in omega arith)
 
 -- ---- what a service answers by its table
+
+-- a service that says done and nothing more answers by the line that its tests come to
+pub converted_by_line : (v : Verdict) → converted_answer v ≡ answer (line_of v) (given [])
+converted_by_line (Ok u) = refl
+converted_by_line (Err r) = refl
 
 pub by_passing : {l : Line} (a : Answer) → l ≡ passes → a ≡ answer l a
 by_passing a h = sym (ap (λ (k : Line). answer k a) h)

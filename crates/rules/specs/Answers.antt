@@ -1,15 +1,10 @@
 -- Document 01: "a definition gives this paper's number and values for each case of the enum, and the promises use that definition". Definitions only.
-use Rattle.std.specs.Prelude.{ℕ, List, [], ◌∷◌, ℤ}
+use Rattle.std.specs.Prelude.{ℕ, List, [], ◌∷◌, ℤ, Option, None, Some, Result, Ok, Err}
 use Rattle.rules.specs.declared.Refusal.{Refusal}
 use Rattle.rules.specs.declared.Weights.{Weights}
-use Rattle.rules.specs.declared.Settled.{Settled}
-use Rattle.rules.specs.declared.Settled.TheVariants as settled
-use Rattle.rules.specs.declared.Converted.{Converted}
-use Rattle.rules.specs.declared.Converted.TheVariants as converted
+use Rattle.rules.specs.declared.Place.{Place}
 use Rattle.rules.specs.declared.Ringed.{Ringed}
-use Rattle.rules.specs.declared.Checked.{Checked}
-use Rattle.rules.specs.declared.Checked.TheVariants as checked
-use Rattle.rules.specs.Refusals.{number_of, place_values, values_of, Line, passes, refuses, line_of}
+use Rattle.rules.specs.Refusals.{number_of, place_values, values_of, Line, passes, refuses, line_of, Verdict}
 
 -- an answer in the paper's terms: the values that a service gives, or a refusal's number and the values that come with it
 pub data Answer : Type 0 where
@@ -21,7 +16,7 @@ abbrev pub answer : Line → Answer → Answer
 answer passes a = a
 answer (refuses n v) a = refused n v
 
--- ---- the answer that each case of an enumeration stands for
+-- ---- the answer that each answer of the code stands for
 
 abbrev pub refusal : Refusal → Answer
 refusal r = refused (number_of r) (values_of r)
@@ -31,14 +26,17 @@ abbrev pub weight_values : Weights → List ℤ
 weight_values w =
     w.yr ∷ w.yg ∷ w.yb ∷ w.cb_r ∷ w.cb_g ∷ w.cb_b ∷ w.cr_r ∷ w.cr_g ∷ w.cr_b ∷ []
 
+abbrev pub Settled : Type 0
+Settled = Result Weights Refusal
+
 abbrev pub settled_answer : Settled → Answer
-settled_answer (settled.Weighed w) = given (weight_values w)
-settled_answer (settled.Refused r) = refusal r
+settled_answer (Ok w) = given (weight_values w)
+settled_answer (Err r) = refusal r
 
 -- "convert's says done and nothing more"; so does that of turning a frame back to RGB
-abbrev pub converted_answer : Converted → Answer
-converted_answer converted.Done = given []
-converted_answer (converted.Refused r) = refusal r
+abbrev pub converted_answer : Verdict → Answer
+converted_answer (Ok u) = given []
+converted_answer (Err r) = refusal r
 
 -- 02: "the answer says how many were written and the refusal that ended it", if one did
 pub record RingAnswer : Type 0 where
@@ -48,7 +46,11 @@ pub record RingAnswer : Type 0 where
 abbrev pub ringed_answer : Ringed → RingAnswer
 ringed_answer r = record { written = r.written; ended = line_of r.ended }
 
+-- the first wrong sample, or none, or a refusal
+abbrev pub Checked : Type 0
+Checked = Result (Option Place) Refusal
+
 abbrev pub checked_answer : Checked → Answer
-checked_answer checked.Accepted = given []
-checked_answer (checked.Wrong p) = given (place_values p.plane p.row p.element)
-checked_answer (checked.Refused r) = refusal r
+checked_answer (Ok None) = given []
+checked_answer (Ok (Some p)) = given (place_values p.plane p.row p.element)
+checked_answer (Err r) = refusal r

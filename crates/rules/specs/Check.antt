@@ -1,5 +1,5 @@
 -- Document 01, "Exact fractions and the tolerance" and refusal 6: which visible samples are wrong, and what check answers. Definitions only.
-use Rattle.std.specs.Prelude.{ℕ, ◌+◌, ◌*◌, Bool, true, false, ◌&&◌, List, [], ◌∷◌, ◌++◌, length, get_or}
+use Rattle.std.specs.Prelude.{ℕ, ◌+◌, ◌*◌, Bool, true, false, ◌&&◌, List, [], ◌∷◌, ◌++◌, length, get_or, None, Some}
 use Rattle.rules.specs.declared.Settings.{Settings}
 use Rattle.rules.specs.declared.Frame.{Frame}
 use Rattle.rules.specs.declared.Pixel.{Pixel}
@@ -8,8 +8,6 @@ use Rattle.rules.specs.declared.Matrix.{Matrix}
 use Rattle.rules.specs.declared.Matrix.TheVariants.{Tabled, Own}
 use Rattle.rules.specs.declared.Component.{Component}
 use Rattle.rules.specs.declared.Component.TheVariants.{Y, Cb, Cr}
-use Rattle.rules.specs.declared.Search.{Search}
-use Rattle.rules.specs.declared.Search.TheVariants.{Nothing, At}
 use Rattle.rules.specs.Ranges.{most, y_range, uv_range}
 use Rattle.rules.specs.Channels.{Picture}
 use Rattle.rules.specs.Matrices.{matrix_of}
@@ -17,7 +15,7 @@ use Rattle.rules.specs.Blocks.{chroma_width, chroma_height}
 use Rattle.rules.specs.PlaneSamples.{Sample, sample_at, bias_of}
 use Rattle.rules.specs.Storage.{well_formed, stored}
 use Rattle.rules.specs.Fractions.{Fraction, exact_luma, exact_cb, exact_cr, halves, within}
-use Rattle.rules.specs.Search.{Test, first_failing}
+use Rattle.rules.specs.Search.{Test, first_failing, Search}
 use Rattle.rules.specs.Refusals.{place_values, Line, line, first}
 use Rattle.rules.specs.Answers.{Answer, given, refused, answer}
 use Rattle.rules.specs.Settle.{settle_lines}
@@ -65,9 +63,9 @@ check_lines s f source luma chroma = settle_lines s ++ (custom_line s ∷ frame_
 
 -- the first wrong sample of luma, or else of chroma, or that there is none
 abbrev pub first_place : Search → Search → Answer
-first_place (At row element) c = given (place_values 0 row element)
-first_place Nothing (At row element) = given (place_values 1 row element)
-first_place Nothing Nothing = given []
+first_place (Some p) c = given (place_values 0 p.row p.element)
+first_place None (Some p) = given (place_values 1 p.row p.element)
+first_place None None = given []
 
 -- "The check goes through luma row by row, then chroma element by element, and leaves the walk at the first wrong sample"
 abbrev pub judged : Settings → Named → Frame → Picture → List ℕ → List ℕ → Answer

@@ -1,16 +1,14 @@
 -- Document 01, refusals 7 to 10, and document 02, Four: what is asked of a frame and its buffers, and what is seen of a source. Definitions only.
-use Rattle.std.specs.Prelude.{ℕ, zero, suc, ◌+◌, ◌*◌, ◌/◌, ◌%◌, Bool, not, ◌||◌, List, [], ◌∷◌, leb, ltb, eqb, length}
+use Rattle.std.specs.Prelude.{ℕ, zero, suc, ◌+◌, ◌*◌, ◌/◌, ◌%◌, Bool, not, ◌||◌, List, [], ◌∷◌, leb, ltb, eqb, length, None, Some}
 use Rattle.rules.specs.declared.Settings.{Settings}
 use Rattle.rules.specs.declared.Frame.{Frame}
 use Rattle.rules.specs.declared.Pixel.{Pixel}
 use Rattle.rules.specs.declared.YuvSourceChannels.{YuvSourceChannels}
-use Rattle.rules.specs.declared.Search.{Search}
-use Rattle.rules.specs.declared.Search.TheVariants.{Nothing, At}
 use Rattle.rules.specs.Ranges.{most}
 use Rattle.rules.specs.Channels.{count, Picture, picture}
 use Rattle.rules.specs.Blocks.{chroma_width, chroma_height}
 use Rattle.rules.specs.Refusals.{outside, Line, passes, refuses, line, first, source_values}
-use Rattle.rules.specs.Search.{Test, first_failing}
+use Rattle.rules.specs.Search.{Test, first_failing, Search}
 
 -- 7: "width or height is 0 or over 16,384"
 abbrev pub size_off : Frame → Bool
@@ -87,8 +85,8 @@ length_line s f count source luma chroma = line 9 (length_off s f count source l
 
 -- 02: "Refusal 10 is to carry row, pixel and channel (red before green before blue) of the first too-large visible sample"
 abbrev pub place_line : Search → Line
-place_line Nothing = passes
-place_line (At row i) = refuses 10 (source_values row (i / 3) (i % 3))
+place_line None = passes
+place_line (Some p) = refuses 10 (source_values p.row (p.element / 3) (p.element % 3))
 
 abbrev pub too_large_line : Settings → Frame → List ℕ → Line
 too_large_line s f source = place_line (too_large (most s.depth) f (shown s f source))

@@ -1,9 +1,7 @@
 -- Document 01, "The refusal numbers, in order": a refusal's number and values, and how a table of tests comes to an answer. Definitions only.
-use Rattle.std.specs.Prelude.{ℕ, Bool, true, false, not, ◌&&◌, List, [], ◌∷◌, leb, ℤ, pos}
+use Rattle.std.specs.Prelude.{ℕ, Bool, true, false, not, ◌&&◌, List, [], ◌∷◌, leb, ℤ, pos, Result, Ok, Err}
 use Rattle.rules.specs.declared.Refusal.{Refusal}
 use Rattle.rules.specs.declared.Refusal.TheVariants.{Depth, Precision, CustomPair, WeightOff, CodeOutside, CustomUnchecked, Size, Stride, Length, TooLarge, Count, Window, Malformed}
-use Rattle.rules.specs.declared.Verdict.{Verdict}
-use Rattle.rules.specs.declared.Verdict.TheVariants.{Passes, Refuses}
 
 -- ---- a refusal in the paper's terms
 
@@ -67,10 +65,14 @@ unfoldable pub first : List Line → Line
 first [] = passes
 first (l ∷ ls) = earlier l (first ls)
 
+-- what the tests of an input come to: none refuses, or this refusal is given
+abbrev pub Verdict : Type 0
+Verdict = Result (Unit {0}) Refusal
+
 -- the line that a verdict of the code stands for
 abbrev pub line_of : Verdict → Line
-line_of Passes = passes
-line_of (Refuses r) = refuses (number_of r) (values_of r)
+line_of (Ok u) = passes
+line_of (Err r) = refuses (number_of r) (values_of r)
 
 -- n is not low to high
 abbrev pub outside : ℕ → ℕ → ℕ → Bool

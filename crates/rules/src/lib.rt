@@ -174,7 +174,7 @@ pub struct CbCrForwardTransform {
 
 // The nine weights times 2^P, as whole numbers.
 #[repr(C)]
-#[derive(Clone, Copy)]
+#[derive(Clone, Copy, Debug, Default, PartialEq, Eq)]
 pub struct Weights {
     pub yr: i32,
     pub yg: i32,
@@ -217,7 +217,7 @@ pub struct Codes {
 
 // Where a colour sample of the source stands: rows and pixels count from 0, at the window's corner; channel 0 is red, 1 green and 2 blue.
 #[repr(C)]
-#[derive(Clone, Copy)]
+#[derive(Clone, Copy, Debug, Default, PartialEq, Eq)]
 pub struct SourcePlace {
     pub row: u32,
     pub pixel: u32,
@@ -226,14 +226,14 @@ pub struct SourcePlace {
 
 // Where a sample of a plane stands: plane 0 is luma and 1 chroma; rows and elements count from 0.
 #[repr(C)]
-#[derive(Clone, Copy)]
+#[derive(Clone, Copy, Debug, Default, PartialEq, Eq)]
 pub struct Place {
     pub plane: u32,
     pub row: u32,
     pub element: u32,
 }
 
-#[derive(Clone, Copy)]
+#[derive(Clone, Copy, Debug, PartialEq, Eq)]
 pub enum Refusal {
     Depth,
     Precision,
@@ -273,45 +273,16 @@ impl Refusal {
     }
 }
 
-// What the tests of an input come to: none refuses, or this refusal is given.
-#[derive(Clone, Copy)]
-pub enum Verdict {
-    Passes,
-    Refuses(Refusal),
-}
-
-// What a search through rows of samples finds: nothing, or the row and the element of the first sample that fails.
-#[derive(Clone, Copy)]
-pub enum Search {
-    Nothing,
-    At(usize, usize),
-}
-
-// What settle answers.
-#[derive(Clone, Copy)]
-pub enum Settled {
-    Weighed(Weights),
-    Refused(Refusal),
-}
-
-// What convert answers, and what turning a frame back to RGB does.
-#[derive(Clone, Copy)]
-pub enum Converted {
-    Done,
-    Refused(Refusal),
+// Where a search through rows of samples finds one that fails.
+#[derive(Clone, Copy, Debug, PartialEq, Eq)]
+pub struct Found {
+    pub row: usize,
+    pub element: usize,
 }
 
 // What converting a ring answers: how many of its frames were written, and the refusal that ended it, if one did.
-#[derive(Clone, Copy)]
+#[derive(Clone, Copy, Debug, PartialEq, Eq)]
 pub struct Ringed {
     pub written: u32,
-    pub ended: Verdict,
-}
-
-// What check answers.
-#[derive(Clone, Copy)]
-pub enum Checked {
-    Accepted,
-    Wrong(Place),
-    Refused(Refusal),
+    pub ended: Result<(), Refusal>,
 }

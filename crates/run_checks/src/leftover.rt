@@ -1,123 +1,59 @@
 // Rows left over from another frame, 5×4 both: each row of each plane alone, and each with all rows below it.
 ghost use Rattle.std.specs.Prelude.{◌≤◌};
 
-use crate::planes;
+use crate::trial::Trial;
 use cases::case::Case;
 use cases::draw::Room;
 use cases::planes::start;
-use cases::{draw, text};
+use cases::text;
 
-// Rows of a plane: which plane, the first of them, and how many.
-#[derive(Clone, Copy)]
-struct Rows {
-    plane: usize,
-    first: usize,
-    count: usize,
+// Lays rows of the other frame's plane over the plane.
+fn lay(plane: &mut Room, other: &Room, stride: usize, first: usize, end: usize)
+    requires { (first ≤ 8) × (end ≤ 8) }
+{
+    let words = plane.iter_mut().zip(other).take(start(stride, end));
+    for (word, left) in words.skip(start(stride, first)) {
+        *word = *left;
+    }
 }
 
-// Lays rows of the other frame's planes over the planes.
-fn lay(c: Case, luma: &mut Room, chroma: &mut Room, old_luma: &Room, old_chroma: &Room, r: Rows)
-    requires { (r.first ≤ 4) × (r.count ≤ 4) }
+// Plane 0 is luma and 1 chroma, as in `rules::Place`.
+fn try_rows(trial: &mut Trial, other: &Trial, plane: usize, row: usize, end: usize)
+    requires { (row ≤ end) × (end ≤ 4) }
 {
-    let end = r.first + r.count;
-    if r.plane == 0 {
-        let luma_stride = c.luma_stride;
-        planes::take(
-            luma,
-            old_luma,
-            start(luma_stride, r.first),
-            start(luma_stride, end),
+    trial.convert();
+    if plane == 0 {
+        lay(
+            &mut trial.luma,
+            &other.luma,
+            trial.case.luma_stride,
+            row,
+            end,
         );
     } else {
-        let chroma_stride = c.chroma_stride;
-        planes::take(
-            chroma,
-            old_chroma,
-            start(chroma_stride, r.first),
-            start(chroma_stride, end),
+        lay(
+            &mut trial.chroma,
+            &other.chroma,
+            trial.case.chroma_stride,
+            row,
+            end,
         );
     }
-}
-
-fn try_rows(
-    c: Case,
-    source: &Room,
-    luma: &mut Room,
-    chroma: &mut Room,
-    old_luma: &Room,
-    old_chroma: &Room,
-    r: Rows,
-)
-    requires { (r.first ≤ 4) × (r.count ≤ 4) }
-{
-    convert_calls::convert(c, source, luma, chroma);
-    lay(c, luma, chroma, old_luma, old_chroma, r);
-    text::line(b"left", &[r.plane, r.first, r.count]);
-    check_calls::check_and_put(c, source, luma, chroma);
-}
-
-// Each row of a plane alone, and with all rows below it.
-fn try_plane(
-    c: Case,
-    source: &Room,
-    luma: &mut Room,
-    chroma: &mut Room,
-    old_luma: &Room,
-    old_chroma: &Room,
-    plane: usize,
-) {
-    for row in 0..4 {
-        let one = Rows {
-            plane,
-            first: row,
-            count: 1,
-        };
-        try_rows(c, source, luma, chroma, old_luma, old_chroma, one);
-        let rest = Rows {
-            plane,
-            first: row,
-            count: 4 - row,
-        };
-        try_rows(c, source, luma, chroma, old_luma, old_chroma, rest);
-    }
-}
-
-// Converts the other frame, then tries both planes.
-fn try_planes(
-    c: Case,
-    source: &Room,
-    luma: &mut Room,
-    chroma: &mut Room,
-    other: Case,
-    other_source: &Room,
-    old_luma: &mut Room,
-    old_chroma: &mut Room,
-) {
-    convert_calls::convert(other, other_source, old_luma, old_chroma);
-    try_plane(c, source, luma, chroma, old_luma, old_chroma, 0);
-    try_plane(c, source, luma, chroma, old_luma, old_chroma, 1);
+    text::line(b"left", &[plane, row, end - row]);
+    trial.check_and_put();
 }
 
 // The other frame has the same settings and size, and samples of another seed.
 pub(crate) fn run(c: Case, seed: u32) {
     text::case(c);
-    text::line(b"over", &[seed as usize]);
-    let mut other = c;
-    other.seed = seed;
-    let source = draw::source_of(c);
-    let other_source = draw::source_of(other);
-    let mut luma = draw::room(7);
-    let mut chroma = draw::room(7);
-    let mut old_luma = draw::room(7);
-    let mut old_chroma = draw::room(7);
-    try_planes(
-        c,
-        &source,
-        &mut luma,
-        &mut chroma,
-        other,
-        &other_source,
-        &mut old_luma,
-        &mut old_chroma,
-    );
+    text::line(b"over", &[text::small(seed)]);
+    let mut trial = Trial::new(c);
+    let mut other = Trial::new(Case { seed, ..c });
+    other.convert();
+    for plane in 0..2 {
+        for row in 0..4 {
+            try_rows(&mut trial, &other, plane, row, row + 1);
+            try_rows(&mut trial, &other, plane, row, 4);
+        }
+    }
 }

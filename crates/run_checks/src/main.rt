@@ -10,7 +10,7 @@ use cases::case::Case;
 mod former;
 mod leftover;
 mod pairs;
-mod planes;
+mod trial;
 mod unwritten;
 mod words;
 
@@ -18,42 +18,29 @@ mod words;
 fn layout(t: usize) -> Case
     requires { t < 12 }
 {
-    let mut c = case::base();
-    c.depth = 10 + (t % 7) as u32;
-    c.matrix = (t % 5) as u32;
-    c.range = ((t + 1) / 2 % 2) as u32;
-    c.subsampling = (t % 3) as u32;
-    c.order = (t / 6) as u32;
-    c.packing = (t / 3 % 2) as u32;
-    c.byte_order = (t / 6) as u32;
-    c.channels = (t % 4) as u32;
-    c.seed = (t + 40) as u32;
-    c
-}
-
-fn run_layout(t: usize)
-    requires { t < 12 }
-{
-    let precision = (t + 1) as u32;
-    words::run(case::laid(layout(t), 3, 3, 1));
-    pairs::run(case::laid(layout(t), 3, 2, 1));
-    leftover::run(case::laid(layout(t), 5, 4, 1), 91);
-    former::run(case::laid(layout(t), 5, 4, 1), precision);
-}
-
-fn run_layouts() {
-    for t in 0..12 {
-        run_layout(t);
+    Case {
+        depth: 10 + (t % 7) as u32,
+        matrix: (t % 5) as u32,
+        range: ((t + 1) / 2 % 2) as u32,
+        subsampling: (t % 3) as u32,
+        order: (t / 6) as u32,
+        packing: (t / 3 % 2) as u32,
+        byte_order: (t / 6) as u32,
+        channels: (t % 4) as u32,
+        seed: (t + 40) as u32,
+        ..case::base()
     }
 }
 
-// A row left over from the same frame cannot be told from one that was written.
-fn run_same_frame() {
-    leftover::run(case::laid(layout(0), 5, 4, 1), 40);
-}
-
 fn main() {
-    run_layouts();
-    run_same_frame();
+    for t in 0..12 {
+        let c = layout(t);
+        words::run(case::laid(c, 3, 3, 1));
+        pairs::run(case::laid(c, 3, 2, 1));
+        leftover::run(case::laid(c, 5, 4, 1), 91);
+        former::run(case::laid(c, 5, 4, 1), (t + 1) as u32);
+    }
+    // A row left over from the same frame cannot be told from one that was written.
+    leftover::run(case::laid(layout(0), 5, 4, 1), 40);
     unwritten::run();
 }

@@ -1,60 +1,52 @@
 // Each of the 65,536 words in turn at one place of a converted frame of 3×3 pixels with one element of padding in each row: how
 // many are accepted, the first and the last of them, and for how many the check names that very place.
+use crate::trial::Trial;
 use answer_numbers::CheckedNumbers;
 use cases::case::Case;
-use cases::draw::Room;
-use cases::{draw, text};
-use check_calls::spot::{Spot, check_word, named, spot_at};
+use cases::text;
+use check_calls::spot::{Spot, named, spot_at};
 
-#[derive(Clone, Copy)]
+#[derive(Clone, Copy, Default)]
 struct Tally {
     accepted: usize,
-    first: usize,
-    last: usize,
+    first: Option<u16>,
+    last: Option<u16>,
     named: usize,
 }
 
-fn more(n: usize) -> usize {
-    if n < 65536 { n + 1 } else { n }
-}
-
-// The tally with one more word.
-fn tallied(tally: Tally, spot: Spot, t: CheckedNumbers, v: usize) -> Tally {
-    let mut next = tally;
-    if named(t, spot) == 1 {
-        next.named = more(next.named);
-    }
-    if t.refusal == 0 && t.wrong == 0 {
-        if next.accepted == 0 {
-            next.first = v;
+impl Tally {
+    // One more word.
+    fn add(&mut self, spot: Spot, t: CheckedNumbers, word: u16) {
+        self.named = self.named.saturating_add(usize::from(named(t, spot)));
+        if t.refusal == 0 && t.wrong == 0 {
+            self.accepted = self.accepted.saturating_add(1);
+            self.first = self.first.or(Some(word));
+            self.last = Some(word);
         }
-        next.accepted = more(next.accepted);
-        next.last = v;
     }
-    next
 }
 
-fn try_words(c: Case, source: &Room, luma: &mut Room, chroma: &mut Room, spot: Spot) {
-    convert_calls::convert(c, source, luma, chroma);
-    let mut tally = Tally {
-        accepted: 0,
-        first: 0,
-        last: 0,
-        named: 0,
-    };
-    for v in 0..65536 {
-        let t = check_word(c, source, luma, chroma, spot, v as u16);
-        tally = tallied(tally, spot, t, v);
+// A word, or 0 where there is none.
+fn number(word: Option<u16>) -> usize {
+    word.map_or(0, usize::from)
+}
+
+fn try_words(trial: &mut Trial, spot: Spot) {
+    trial.convert();
+    let mut tally = Tally::default();
+    for word in 0..=u16::MAX {
+        let t = trial.check_word(spot, word);
+        tally.add(spot, t, word);
     }
     text::line(
         b"words",
         &[
-            text::small(spot.plane),
-            text::small(spot.row),
-            text::small(spot.element),
+            text::small(spot.place.plane),
+            text::small(spot.place.row),
+            text::small(spot.place.element),
             tally.accepted,
-            tally.first,
-            tally.last,
+            number(tally.first),
+            number(tally.last),
             tally.named,
         ],
     );
@@ -69,26 +61,16 @@ fn last_chroma(subsampling: u32) -> Spot {
     }
 }
 
-// The first and the last place of each plane.
-fn spot_of(subsampling: u32, n: usize) -> Spot {
-    match n {
-        0 => spot_at(0, 0, 0, 0),
-        1 => spot_at(0, 2, 2, 10),
-        2 => spot_at(1, 0, 0, 0),
-        _ => last_chroma(subsampling),
-    }
-}
-
-fn try_spots(c: Case, source: &Room, luma: &mut Room, chroma: &mut Room) {
-    for n in 0..4 {
-        try_words(c, source, luma, chroma, spot_of(c.subsampling, n));
-    }
-}
-
+// At the first and the last place of each plane.
 pub(crate) fn run(c: Case) {
     text::case(c);
-    let source = draw::source_of(c);
-    let mut luma = draw::room(7);
-    let mut chroma = draw::room(7);
-    try_spots(c, &source, &mut luma, &mut chroma);
+    let mut trial = Trial::new(c);
+    for spot in [
+        spot_at(0, 0, 0, 0),
+        spot_at(0, 2, 2, 10),
+        spot_at(1, 0, 0, 0),
+        last_chroma(c.subsampling),
+    ] {
+        try_words(&mut trial, spot);
+    }
 }

@@ -13,30 +13,34 @@ mod run;
 fn whole_frames() {
     let c = case::base();
     run::run(c);
-    let mut d = c;
-    d.height = 2;
-    d.source_rows = 2;
-    d.source = 18;
-    d.luma = 8;
-    run::run(d);
+    run::run(Case {
+        height: 2,
+        source_rows: 2,
+        source: 18,
+        luma: 8,
+        ..c
+    });
 }
 
 // Every depth, channel layout, subsampling, order, packing and byte order; the rest changes from frame to frame.
 fn combination(t: usize) -> Case
     requires { t < 672 }
 {
-    let mut c = case::base();
-    c.depth = 10 + (t % 7) as u32;
-    c.channels = (t / 7 % 4) as u32;
-    c.subsampling = (t / 28 % 3) as u32;
-    c.order = (t / 84 % 2) as u32;
-    c.packing = (t / 168 % 2) as u32;
-    c.byte_order = (t / 336) as u32;
-    c.precision = 13 - (t % 13) as u32;
-    c.matrix = (t % 6) as u32;
-    c.range = (t / 2 % 2) as u32;
-    c.seed = (t + 1000) as u32;
-    c
+    // `as` loses nothing of so small a number, where `try_from` would give a Result.
+    let n = t as u32;
+    Case {
+        depth: 10 + n % 7,
+        channels: n / 7 % 4,
+        subsampling: n / 28 % 3,
+        order: n / 84 % 2,
+        packing: n / 168 % 2,
+        byte_order: n / 336,
+        precision: 13 - n % 13,
+        matrix: n % 6,
+        range: n / 2 % 2,
+        seed: n + 1000,
+        ..case::base()
+    }
 }
 
 // Sizes from 1×1 to 9×7, with 0, 1 or 2 elements of padding in each row; where a frame is
@@ -44,11 +48,13 @@ fn combination(t: usize) -> Case
 fn run_combination(t: usize)
     requires { t < 672 }
 {
-    let mut c = case::laid(combination(t), 1 + t % 9, 1 + t / 9 % 7, t % 3);
-    if run::run(c) != 0 {
-        c.range = 0;
-        c.precision = 13;
-        run::run(c);
+    let c = case::laid(combination(t), 1 + t % 9, 1 + t / 9 % 7, t % 3);
+    if !run::run(c) {
+        run::run(Case {
+            range: 0,
+            precision: 13,
+            ..c
+        });
     }
 }
 

@@ -9,120 +9,145 @@ use cases::case::Case;
 
 mod call;
 
-// The last number that names a case, of each enumeration of the settings as their fields come.
-fn last_case(field: u32) -> u32
-    ensures { result ≤ 5 }
-{
-    match field {
-        0 => 5,
-        1 => 1,
-        2 => 2,
-        3 => 1,
-        4 => 1,
-        5 => 1,
-        _ => 3,
-    }
+// An enumeration of the settings.
+#[derive(Clone, Copy)]
+enum Field {
+    Matrix,
+    Range,
+    Subsampling,
+    Order,
+    Packing,
+    ByteOrder,
+    Channels,
 }
 
-// A case with one enumeration's number set.
-fn with_number(c: Case, field: u32, number: u32) -> Case {
-    let mut d = c;
-    match field {
-        0 => d.matrix = number,
-        1 => d.range = number,
-        2 => d.subsampling = number,
-        3 => d.order = number,
-        4 => d.packing = number,
-        5 => d.byte_order = number,
-        _ => d.channels = number,
-    }
-    d
-}
+// All of them, as the settings' fields come.
+const FIELDS: [Field; 7] = [
+    Field::Matrix,
+    Field::Range,
+    Field::Subsampling,
+    Field::Order,
+    Field::Packing,
+    Field::ByteOrder,
+    Field::Channels,
+];
 
-// Document 01's frame, which is converted, or with what makes one refusal due: 1, 2, 3, 7, 8, 9 or 10.
-fn with_refusal(refusal: u32) -> Case {
-    let mut c = case::base();
-    match refusal {
-        1 => c.depth = 9,
-        2 => c.precision = 14,
-        3 => c.matrix = case::ZERO_PAIR,
-        7 => c.width = 0,
-        8 => c.luma_stride = 2,
-        9 => c.chroma = 5,
-        10 => {
-            c.at = 5;
-            c.sample = 1024;
+impl Field {
+    // The last number that names a case.
+    fn last(self) -> u32
+        ensures { result ≤ 5 }
+    {
+        match self {
+            Field::Matrix => 5,
+            Field::Subsampling => 2,
+            Field::Channels => 3,
+            Field::Range | Field::Order | Field::Packing | Field::ByteOrder => 1,
         }
-        _ => c.seed = 0,
     }
-    c
+
+    // The case with this enumeration's number set.
+    fn with_number(self, c: Case, number: u32) -> Case {
+        match self {
+            Field::Matrix => Case {
+                matrix: number,
+                ..c
+            },
+            Field::Range => Case { range: number, ..c },
+            Field::Subsampling => Case {
+                subsampling: number,
+                ..c
+            },
+            Field::Order => Case { order: number, ..c },
+            Field::Packing => Case {
+                packing: number,
+                ..c
+            },
+            Field::ByteOrder => Case {
+                byte_order: number,
+                ..c
+            },
+            Field::Channels => Case {
+                channels: number,
+                ..c
+            },
+        }
+    }
+
+    // The case with the number one past the last.
+    fn unnamed(self, c: Case) -> Case {
+        self.with_number(c, self.last() + 1)
+    }
 }
 
-// The number one past an enumeration's last, beside one refusal or none.
-fn run_unnamed(field: u32, refusal: u32)
-    requires { field < 7 }
-{
-    call::run(with_number(with_refusal(refusal), field, last_case(field) + 1));
+// Document 01's frame with what makes one refusal due: 1, 2, 3, 7, 8, 9 and 10.
+fn refused() -> [Case; 7] {
+    let c = case::base();
+    [
+        Case { depth: 9, ..c },
+        Case { precision: 14, ..c },
+        Case {
+            matrix: case::ZERO_PAIR,
+            ..c
+        },
+        Case { width: 0, ..c },
+        Case {
+            luma_stride: 2,
+            ..c
+        },
+        Case { chroma: 5, ..c },
+        Case {
+            at: 5,
+            sample: 1024,
+            ..c
+        },
+    ]
 }
 
-fn run_field(field: u32)
-    requires { field < 7 }
-{
-    call::run(with_number(case::base(), field, last_case(field)));
-    call::run(with_number(case::base(), field, 4294967295));
-    run_unnamed(field, 0);
-    run_unnamed(field, 1);
-    run_unnamed(field, 2);
-    run_unnamed(field, 3);
-    run_unnamed(field, 7);
-    run_unnamed(field, 8);
-    run_unnamed(field, 9);
-    run_unnamed(field, 10);
+// A number that names no case, alone and beside each refusal.
+fn run_field(field: Field) {
+    let c = case::base();
+    call::run(field.with_number(c, field.last()));
+    call::run(field.with_number(c, u32::MAX));
+    call::run(field.unnamed(c));
+    for c in refused() {
+        call::run(field.unnamed(c));
+    }
 }
 
 fn run_fields() {
-    for field in 0..7 {
+    for field in FIELDS {
         run_field(field);
     }
 }
 
 // Each refusal by itself.
 fn run_refusals() {
-    call::run(with_refusal(1));
-    call::run(with_refusal(2));
-    call::run(with_refusal(3));
-    call::run(with_refusal(7));
-    call::run(with_refusal(8));
-    call::run(with_refusal(9));
-    call::run(with_refusal(10));
+    for c in refused() {
+        call::run(c);
+    }
 }
 
 // Two numbers that name no case.
-fn run_two(first: u32, second: u32)
-    requires { (first < 7) × (second < 7) }
-{
-    let c = with_number(case::base(), first, last_case(first) + 1);
-    call::run(with_number(c, second, last_case(second) + 1));
-}
-
 fn run_each_two() {
-    for first in 0..6 {
-        run_two(first, first + 1);
+    for (first, second) in FIELDS.iter().zip(&FIELDS[1..]) {
+        call::run(second.unnamed(first.unnamed(case::base())));
     }
 }
 
 // Every matrix and range, the depth and precision changing from call to call.
-fn run_settled(t: usize)
+fn run_settled(t: u32)
     requires { t < 24 }
 {
-    let mut c = case::base();
-    c.depth = 10 + (t % 7) as u32;
-    c.precision = 13 - (t % 5) as u32;
-    c.matrix = (t % 6) as u32;
-    c.range = (t / 6 % 2) as u32;
-    c.subsampling = (t % 3) as u32;
-    c.channels = (t % 4) as u32;
-    c.seed = (t + 7) as u32;
+    let c = Case {
+        depth: 10 + t % 7,
+        precision: 13 - t % 5,
+        matrix: t % 6,
+        range: t / 6 % 2,
+        subsampling: t % 3,
+        channels: t % 4,
+        seed: t + 7,
+        ..case::base()
+    };
     call::run(case::laid(c, 2, 2, 1));
 }
 

@@ -10,19 +10,18 @@ mod greys;
 mod orders;
 mod patterns;
 mod places;
-mod run;
 mod settings;
 mod sizes;
 mod stored;
 mod sweep;
-mod trials;
+mod trial;
 mod wide;
 mod windows;
 mod words;
 
 // Document 01's frame comes first.
 fn main() {
-    run::converted(case::base());
+    trial::run_converted(case::base());
     sweep::run();
     wide::run();
     codes::run();

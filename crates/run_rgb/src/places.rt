@@ -5,54 +5,38 @@ use cases::case::Case;
 use cases::planes::index;
 use check_calls::spot::{Spot, spot_at};
 
-pub(crate) fn luma_at(c: Case, row: u32, element: u32) -> Spot
+// A place of a plane: 0 is luma and 1 chroma, as in `rules::Place`.
+fn place(plane: u32, stride: usize, row: usize, element: usize) -> Spot
     requires { (row ≤ 32) × (element ≤ 128) }
 {
-    spot_at(
-        0,
-        row,
-        element,
-        index(c.luma_stride, row as usize, element as usize),
-    )
+    let at = index(stride, row, element);
+    spot_at(plane, row as u32, element as u32, at)
 }
 
-pub(crate) fn chroma_at(c: Case, row: u32, element: u32) -> Spot
+pub(crate) fn luma_at(c: Case, row: usize, element: usize) -> Spot
     requires { (row ≤ 32) × (element ≤ 128) }
 {
-    spot_at(
-        1,
-        row,
-        element,
-        index(c.chroma_stride, row as usize, element as usize),
-    )
+    place(0, c.luma_stride, row, element)
 }
 
-// The last of n rows or columns.
-fn last_of(n: usize) -> u32
-    ensures { result ≤ 63 }
+pub(crate) fn chroma_at(c: Case, row: usize, element: usize) -> Spot
+    requires { (row ≤ 32) × (element ≤ 128) }
 {
-    if n == 0 {
-        return 0;
-    }
-    if n <= 64 { (n - 1) as u32 } else { 63 }
-}
-
-fn last_row(c: Case) -> u32
-    ensures { result ≤ 31 }
-{
-    last_of(c.height) % 32
+    place(1, c.chroma_stride, row, element)
 }
 
 pub(crate) fn last_luma(c: Case) -> Spot {
-    luma_at(c, last_row(c), last_of(c.width))
+    luma_at(c, c.height.clamp(1, 32) - 1, c.width.clamp(1, 64) - 1)
 }
 
 pub(crate) fn last_chroma(c: Case) -> Spot {
-    if c.subsampling == 2 {
-        return chroma_at(c, last_row(c), 2 * last_of(c.width) + 1);
-    }
-    if c.subsampling == 1 {
-        return chroma_at(c, last_row(c), last_of(c.width) / 2 * 2 + 1);
-    }
-    chroma_at(c, last_row(c) / 2, last_of(c.width) / 2 * 2 + 1)
+    let row = c.height.clamp(1, 32) - 1;
+    let column = c.width.clamp(1, 64) - 1;
+    let row = if c.subsampling == 0 { row / 2 } else { row };
+    let pair = if c.subsampling == 2 {
+        column
+    } else {
+        column / 2
+    };
+    chroma_at(c, row, 2 * pair + 1)
 }

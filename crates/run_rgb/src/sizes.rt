@@ -1,62 +1,72 @@
 // Both sides of each limit of a frame's width and height.
-use crate::run;
+ghost use Rattle.std.specs.Prelude.{◌≤◌};
+
+use crate::trial::run_converted;
 use cases::case;
 use cases::case::Case;
 
-fn base(subsampling: u32) -> Case {
-    let mut c = case::base();
-    c.subsampling = subsampling;
-    c.seed = 1400;
-    c
-}
-
 // Strides and lengths are those of the size.
-fn laid() {
-    run::converted(case::laid(base(0), 1, 1, 0));
-    run::converted(case::laid(base(1), 1, 1, 0));
-    run::converted(case::laid(base(2), 1, 1, 0));
-    run::converted(case::laid(base(0), 0, 1, 0));
-    run::converted(case::laid(base(0), 1, 0, 0));
-    run::converted(case::laid(base(0), 0, 0, 0));
-    run::converted(case::laid(base(0), 16384, 1, 0));
-    run::converted(case::laid(base(1), 16384, 1, 0));
-    run::converted(case::laid(base(2), 16384, 1, 0));
-    run::converted(case::laid(base(0), 16385, 1, 0));
-    run::converted(case::laid(base(0), 1, 16384, 0));
-    run::converted(case::laid(base(1), 1, 16384, 0));
-    run::converted(case::laid(base(2), 1, 16384, 0));
-    run::converted(case::laid(base(0), 1, 16385, 0));
+fn laid(subsampling: u32, width: usize, height: usize) -> Case
+    requires { (width ≤ 20000) × (height ≤ 20000) }
+{
+    let c = Case {
+        subsampling,
+        seed: 1400,
+        ..case::base()
+    };
+    case::laid(c, width, height, 0)
 }
 
-// Strides and lengths are those of 3×1 pixels.
-fn sized(width: usize, height: usize) {
-    let mut c = base(0);
-    c.width = width;
-    c.height = height;
-    c.source_rows = height;
-    run::converted(c);
+fn run_laid() {
+    for subsampling in 0..3 {
+        run_converted(laid(subsampling, 1, 1));
+    }
+    for (width, height) in [(0, 1), (1, 0), (0, 0)] {
+        run_converted(laid(0, width, height));
+    }
+    for subsampling in 0..3 {
+        run_converted(laid(subsampling, 16384, 1));
+    }
+    run_converted(laid(0, 16385, 1));
+    for subsampling in 0..3 {
+        run_converted(laid(subsampling, 1, 16384));
+    }
+    run_converted(laid(0, 1, 16385));
 }
 
-// Strides are those of 16,384 pixels, and lengths those of 3×1.
-fn large(width: usize, height: usize) {
-    let mut c = case::laid(base(0), 16384, 1, 0);
-    c.source = 9;
-    c.luma = 4;
-    c.chroma = 6;
-    c.width = width;
-    c.height = height;
-    c.source_rows = height;
-    run::converted(c);
+// Strides and lengths are those of the case.
+fn run_sized(c: Case, width: usize, height: usize) {
+    run_converted(Case {
+        width,
+        height,
+        source_rows: height,
+        ..c
+    });
 }
 
 pub(crate) fn run() {
-    laid();
-    sized(0, 1);
-    sized(3, 0);
-    sized(18446744073709551615, 1);
-    sized(3, 18446744073709551615);
-    sized(18446744073709551615, 18446744073709551615);
-    large(16384, 16384);
-    large(16385, 16384);
-    large(16384, 16385);
+    run_laid();
+    let small = Case {
+        seed: 1400,
+        ..case::base()
+    };
+    for (width, height) in [
+        (0, 1),
+        (3, 0),
+        (usize::MAX, 1),
+        (3, usize::MAX),
+        (usize::MAX, usize::MAX),
+    ] {
+        run_sized(small, width, height);
+    }
+    // Strides are those of 16,384 pixels, and lengths those of 3×1.
+    let large = Case {
+        source: 9,
+        luma: 4,
+        chroma: 6,
+        ..laid(0, 16384, 1)
+    };
+    for (width, height) in [(16384, 16384), (16385, 16384), (16384, 16385)] {
+        run_sized(large, width, height);
+    }
 }

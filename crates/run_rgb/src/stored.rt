@@ -3,78 +3,52 @@ ghost use Rattle.std.specs.Prelude.{◌≤◌};
 
 use cases::case::Case;
 
-// 2^(depth − 10).
-pub(crate) fn scale_of(depth: u32) -> usize
-    ensures { (1 ≤ result) × (result ≤ 64) }
-{
-    match depth {
-        11 => 2,
-        12 => 4,
-        13 => 8,
-        14 => 16,
-        15 => 32,
-        16 => 64,
-        _ => 1,
-    }
+// m of a depth.
+pub(crate) fn most_of(depth: u32) -> u16 {
+    u16::MAX >> (16 - depth.clamp(10, 16))
 }
 
-// m of a depth.
-pub(crate) fn most_of(depth: u32) -> usize
-    ensures { result ≤ 65535 }
+// 2^(depth − 10): m is one below 1024 times that.
+pub(crate) fn scale_of(depth: u32) -> u16
+    ensures { (1 ≤ result) × (result ≤ 64) }
 {
-    1024 * scale_of(depth) - 1
+    most_of(depth) / 1024 + 1
 }
 
 // How far apart the words of two neighbouring codes are: 2^(16 − depth), or 1.
-fn step_of(packing: u32, depth: u32) -> usize
-    ensures { result ≤ 64 }
-{
+fn step_of(packing: u32, depth: u32) -> u16 {
     if packing == 1 {
-        return 1;
-    }
-    match depth {
-        10 => 64,
-        11 => 32,
-        12 => 16,
-        13 => 8,
-        14 => 4,
-        15 => 2,
-        _ => 1,
+        1
+    } else {
+        64 / scale_of(depth)
     }
 }
 
 // A word with its bytes in the case's order.
-pub(crate) fn ordered(byte_order: u32, v: usize) -> u16 {
+fn ordered(byte_order: u32, word: u16) -> u16 {
     if byte_order == 0 {
-        return (v % 256 * 256 + v / 256 % 256) as u16;
+        word.swap_bytes()
+    } else {
+        word
     }
-    (v % 65536) as u16
 }
 
-pub(crate) fn word_of(c: Case, code: usize) -> u16
-    requires { code ≤ 65536 }
-{
-    ordered(c.byte_order, code * step_of(c.packing, c.depth))
+pub(crate) fn word_of(c: Case, code: u16) -> u16 {
+    let word = code.wrapping_mul(step_of(c.packing, c.depth));
+    ordered(c.byte_order, word)
 }
 
 // Words that are not well formed at any depth but 16. Most significant: the lowest bit set, the highest of the low bits set, and all bits
 // set. Least significant: m + 1, the highest bit set, and all bits set.
-pub(crate) fn malformed(c: Case, kind: usize) -> u16 {
-    if kind == 2 {
-        return 65535;
-    }
-    if c.packing == 0 {
-        let low_bit = if kind == 0 {
-            1
-        } else {
-            step_of(c.packing, c.depth) / 2
-        };
-        return ordered(c.byte_order, low_bit);
-    }
-    let high_bit = if kind == 0 {
-        1024 * scale_of(c.depth)
+pub(crate) fn malformed(c: Case) -> [u16; 3] {
+    let (first, second) = if c.packing == 0 {
+        (1, step_of(c.packing, c.depth) / 2)
     } else {
-        32768
+        (most_of(c.depth).wrapping_add(1), 0x8000)
     };
-    ordered(c.byte_order, high_bit)
+    [
+        ordered(c.byte_order, first),
+        ordered(c.byte_order, second),
+        u16::MAX,
+    ]
 }

@@ -3,58 +3,45 @@
 ghost use Rattle.std.specs.Prelude.{◌<◌};
 
 use crate::places::{chroma_at, last_chroma, last_luma, luma_at};
-use crate::run;
 use crate::stored::malformed;
-use crate::trials::one;
+use crate::trial::{Trial, put_case};
+use cases::case;
 use cases::case::Case;
-use cases::draw::Room;
-use cases::{case, draw};
 
 fn wide(t: usize) -> Case
     requires { t < 24 }
 {
-    let mut c = case::base();
-    c.depth = 10 + (t % 7) as u32;
-    c.matrix = (t % 3) as u32;
-    c.range = (t / 12) as u32;
-    c.subsampling = (t % 3) as u32;
-    c.channels = (t / 3 % 4) as u32;
-    c.order = (t / 2 % 2) as u32;
-    c.packing = (t / 5 % 2) as u32;
-    c.byte_order = (t / 7 % 2) as u32;
-    c.seed = (t + 1100) as u32;
-    case::windowed(
-        case::laid(c, 32 + t % 6, 7 + t % 5, t % 4),
-        t % 2,
-        1,
-        1,
-        t % 2,
-        2,
-    )
-}
-
-fn try_words(c: Case, luma: &mut Room, chroma: &mut Room, v: u16) {
-    one(c, luma, chroma, luma_at(c, 3, 17), v);
-    one(c, luma, chroma, last_luma(c), v);
-    one(c, luma, chroma, chroma_at(c, 2, 21), v);
-    one(c, luma, chroma, last_chroma(c), v);
-}
-
-fn restore(c: Case, source: &Room, luma: &mut Room, chroma: &mut Room, kind: usize) {
-    run::convert_and_restore(c, source, luma, chroma);
-    try_words(c, luma, chroma, malformed(c, kind));
-}
-
-fn run_frame(c: Case, kind: usize) {
-    run::put_case(c);
-    let source = draw::source_of(c);
-    let mut luma = draw::room(7);
-    let mut chroma = draw::room(7);
-    restore(c, &source, &mut luma, &mut chroma, kind);
+    let c = Case {
+        depth: 10 + (t % 7) as u32,
+        matrix: (t % 3) as u32,
+        range: (t / 12) as u32,
+        subsampling: (t % 3) as u32,
+        channels: (t / 3 % 4) as u32,
+        order: (t / 2 % 2) as u32,
+        packing: (t / 5 % 2) as u32,
+        byte_order: (t / 7 % 2) as u32,
+        seed: (t + 1100) as u32,
+        ..case::base()
+    };
+    let d = case::laid(c, 32 + t % 6, 7 + t % 5, t % 4);
+    case::windowed(d, t % 2, 1, 1, t % 2, 2)
 }
 
 pub(crate) fn run() {
     for t in 0..24 {
-        run_frame(wide(t), t / 3 % 3);
+        let c = wide(t);
+        put_case(c);
+        let mut trial = Trial::new(c);
+        trial.convert();
+        trial.restore();
+        let word = malformed(c)[t / 3 % 3];
+        for spot in [
+            luma_at(c, 3, 17),
+            last_luma(c),
+            chroma_at(c, 2, 21),
+            last_chroma(c),
+        ] {
+            trial.restore_with(spot, word);
+        }
     }
 }

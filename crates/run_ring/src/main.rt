@@ -5,99 +5,106 @@
 ghost use Rattle.std.specs.Prelude.{◌<◌, ◌≤◌};
 
 use cases::case;
+use cases::case::Case;
 use convert_calls::rings;
 
 mod call;
 mod orders;
 mod sweeps;
 
-// Buffers that hold document 01's 3×1 frame so many times, and the count that the call is given.
-fn run_count(frames: usize, count: usize)
-    requires { frames ≤ 65 }
-{
-    call::run(rings::end_to_end(case::base(), frames), count);
-}
-
-// Both sides of the limits of a count, and the largest number.
+// Buffers that hold document 01's 3×1 frame so many times, and the count that the call is given: both sides of the limits of a count, and
+// the largest number.
 fn counts() {
-    run_count(0, 0);
-    run_count(1, 1);
-    run_count(2, 2);
-    run_count(63, 63);
-    run_count(64, 64);
-    run_count(65, 65);
-    run_count(1, 18446744073709551615);
-}
-
-fn run_lengths(source: usize, luma: usize, chroma: usize) {
-    let mut c = case::base();
-    c.source = source;
-    c.luma = luma;
-    c.chroma = chroma;
-    call::run(c, 3);
+    for (frames, count) in [
+        (0, 0),
+        (1, 1),
+        (2, 2),
+        (63, 63),
+        (64, 64),
+        (65, 65),
+        (1, usize::MAX),
+    ] {
+        call::run(rings::end_to_end(case::base(), frames), count);
+    }
 }
 
 // A ring of three frames of document 01: each buffer one element short and long, one frame short and long, and empty; then all of them one
 // frame short and one frame long.
 fn lengths() {
-    run_lengths(26, 12, 18);
-    run_lengths(28, 12, 18);
-    run_lengths(18, 12, 18);
-    run_lengths(36, 12, 18);
-    run_lengths(0, 12, 18);
-    run_lengths(27, 11, 18);
-    run_lengths(27, 13, 18);
-    run_lengths(27, 8, 18);
-    run_lengths(27, 16, 18);
-    run_lengths(27, 0, 18);
-    run_lengths(27, 12, 17);
-    run_lengths(27, 12, 19);
-    run_lengths(27, 12, 12);
-    run_lengths(27, 12, 24);
-    run_lengths(27, 12, 0);
-    run_lengths(18, 8, 12);
-    run_lengths(36, 16, 24);
+    for (source, luma, chroma) in [
+        (26, 12, 18),
+        (28, 12, 18),
+        (18, 12, 18),
+        (36, 12, 18),
+        (0, 12, 18),
+        (27, 11, 18),
+        (27, 13, 18),
+        (27, 8, 18),
+        (27, 16, 18),
+        (27, 0, 18),
+        (27, 12, 17),
+        (27, 12, 19),
+        (27, 12, 12),
+        (27, 12, 24),
+        (27, 12, 0),
+        (18, 8, 12),
+        (36, 16, 24),
+    ] {
+        let c = Case {
+            source,
+            luma,
+            chroma,
+            ..case::base()
+        };
+        call::run(c, 3);
+    }
 }
 
 // A ring of 64 frames of 2×1 with one element of padding in each row, and a sample put at an element of one of them.
 fn run_sample(channels: u32, frame: usize, element: usize, sample: u16)
     requires { (frame < 64) × (element < 9) }
 {
-    let mut c = case::base();
-    c.channels = channels;
-    c.seed = 8;
+    let c = Case {
+        channels,
+        seed: 8,
+        ..case::base()
+    };
     let d = case::laid(c, 2, 1, 1);
-    let mut e = rings::end_to_end(d, 64);
-    e.at = rings::start_of(d.source, frame) + element;
-    e.sample = sample;
+    let e = Case {
+        at: rings::start_of(d.source, frame) + element,
+        sample,
+        ..rings::end_to_end(d, 64)
+    };
     call::run(e, 64);
 }
 
-// Each channel of a frame's second pixel.
-fn run_channels(frame: usize)
-    requires { frame < 64 }
-{
-    run_sample(0, frame, 3, 1024);
-    run_sample(0, frame, 4, 1024);
-    run_sample(0, frame, 5, 1024);
+// m + 1 in each channel of the second pixel of the first, a middle and the last frame.
+fn too_large() {
+    for frame in [0, 31, 63] {
+        for element in 3..6 {
+            run_sample(0, frame, element, 1024);
+        }
+    }
 }
 
-// m + 1 in the first, a middle and the last frame; then m; then padding and alpha of a middle frame, where it does not matter.
-fn samples() {
-    run_channels(0);
-    run_channels(31);
-    run_channels(63);
-    run_sample(0, 31, 3, 1023);
-    run_sample(0, 31, 6, 65535);
-    run_sample(1, 31, 3, 65535);
-    run_sample(2, 31, 7, 65535);
-    run_sample(1, 31, 8, 65535);
+// m; then padding and alpha of a middle frame, where it does not matter.
+fn harmless() {
+    for (channels, element, sample) in [
+        (0, 3, 1023),
+        (0, 6, 65535),
+        (1, 3, 65535),
+        (2, 7, 65535),
+        (1, 8, 65535),
+    ] {
+        run_sample(channels, 31, element, sample);
+    }
 }
 
 fn main() {
     counts();
     lengths();
-    samples();
+    too_large();
+    harmless();
     orders::run();
     sweeps::run();
 }

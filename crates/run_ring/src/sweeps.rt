@@ -2,6 +2,7 @@
 ghost use Rattle.std.specs.Prelude.{◌<◌};
 
 use crate::call;
+use cases::case::Case;
 use cases::planes::index;
 use cases::{case, sweeps};
 use convert_calls::rings;
@@ -13,9 +14,11 @@ fn run_layout(t: usize)
 {
     let c = sweeps::layout(t);
     let element = case::first_element(c.channels, t / 15 % 3) + t / 45 % 3;
-    let mut d = rings::end_to_end(c, 3);
-    d.at = rings::start_of(c.source, t % 5) + index(c.source_stride, t / 5 % 3, element);
-    d.sample = 1024;
+    let d = Case {
+        at: rings::start_of(c.source, t % 5) + index(c.source_stride, t / 5 % 3, element),
+        sample: 1024,
+        ..rings::end_to_end(c, 3)
+    };
     call::run(d, 3);
 }
 
@@ -29,8 +32,11 @@ fn run_layouts() {
 fn run_depth(t: usize)
     requires { t < 182 }
 {
-    let mut c = sweeps::depth(t);
-    c.matrix = (t % 6) as u32;
+    let c = Case {
+        // `as` loses nothing of so small a number, where `try_from` would give a Result.
+        matrix: (t % 6) as u32,
+        ..sweeps::depth(t)
+    };
     call::run(rings::end_to_end(c, 2), 2);
 }
 

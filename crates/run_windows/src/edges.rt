@@ -4,47 +4,50 @@ ghost use Rattle.std.specs.Prelude.{◌+◌, ◌≤◌};
 
 use crate::run;
 use cases::case;
+use cases::case::Case;
 
 fn at(subsampling: u32, width: usize, height: usize, left: usize, above: usize)
     requires { (width + left ≤ 7) × (height + above ≤ 7) }
 {
-    let mut c = case::base();
-    c.subsampling = subsampling;
-    c.matrix = 1;
-    c.seed = 9;
+    let c = Case {
+        subsampling,
+        matrix: 1,
+        seed: 9,
+        ..case::base()
+    };
     let d = case::laid(c, width, height, 1);
     run::frame(case::windowed(d, left, 7 - width - left, above, 7 - height - above, 0));
 }
 
-fn along_row(subsampling: u32, above: usize)
-    requires { above ≤ 4 }
-{
-    at(subsampling, 3, 3, 0, above);
-    at(subsampling, 3, 3, 2, above);
-    at(subsampling, 3, 3, 4, above);
+// 3×3 pixels at each third of the columns and of the rows.
+fn thirds(subsampling: u32) {
+    for above in 0..3 {
+        for left in 0..3 {
+            at(subsampling, 3, 3, 2 * left, 2 * above);
+        }
+    }
 }
 
+// The whole source; a row, a column and a single pixel at each end.
 fn ends(subsampling: u32) {
-    at(subsampling, 7, 1, 0, 0);
-    at(subsampling, 7, 1, 0, 6);
-    at(subsampling, 1, 7, 0, 0);
-    at(subsampling, 1, 7, 6, 0);
-    at(subsampling, 1, 1, 0, 0);
-    at(subsampling, 1, 1, 6, 0);
-    at(subsampling, 1, 1, 0, 6);
-    at(subsampling, 1, 1, 6, 6);
-}
-
-fn all(subsampling: u32) {
-    along_row(subsampling, 0);
-    along_row(subsampling, 2);
-    along_row(subsampling, 4);
-    at(subsampling, 7, 7, 0, 0);
-    ends(subsampling);
+    for (width, height, left, above) in [
+        (7, 7, 0, 0),
+        (7, 1, 0, 0),
+        (7, 1, 0, 6),
+        (1, 7, 0, 0),
+        (1, 7, 6, 0),
+        (1, 1, 0, 0),
+        (1, 1, 6, 0),
+        (1, 1, 0, 6),
+        (1, 1, 6, 6),
+    ] {
+        at(subsampling, width, height, left, above);
+    }
 }
 
 pub(crate) fn run() {
-    all(0);
-    all(1);
-    all(2);
+    for subsampling in 0..3 {
+        thirds(subsampling);
+        ends(subsampling);
+    }
 }

@@ -43,74 +43,46 @@ fn put_ring(at: usize, t: RingNumbers) {
     );
 }
 
-fn try_frame(c: Case, source: &Room, luma: &mut Room, chroma: &mut Room, at: usize) {
-    let n = convert_calls::convert(c, source, luma, chroma);
-    let t = check_calls::check(c, source, luma, chroma);
-    put_places(at, n, t);
-}
-
-fn frame_with(c: Case, source: &mut Room, luma: &mut Room, chroma: &mut Room, at: usize) {
-    let old = get(source, at);
-    put(source, at, 65535);
-    try_frame(c, source, luma, chroma, at);
-    put(source, at, old);
-}
-
-fn frames_with(c: Case, source: &mut Room, luma: &mut Room, chroma: &mut Room, length: usize) {
-    let mut at = 0;
-    while at < length {
-        frame_with(c, source, luma, chroma, at);
-        at += 1;
-    }
-}
-
-fn ring_with(c: Case, source: &mut Room, luma: &mut Room, chroma: &mut Room, at: usize) {
-    let old = get(source, at);
-    put(source, at, 65535);
-    put_ring(at, convert_ring(c, 2, source, luma, chroma));
-    put(source, at, old);
-}
-
-fn rings_with(c: Case, source: &mut Room, luma: &mut Room, chroma: &mut Room, length: usize) {
-    let mut at = length / 2;
-    while at < length {
-        ring_with(c, source, luma, chroma, at);
-        at += 1;
+// Each element of a source from one index on in turn made too large, and a function called with it and the source.
+fn each_too_large<F: FnMut(usize, &Room)>(c: Case, first: usize, mut call: F)
+    requires { F.IsAlwaysCallable call }
+{
+    let mut source = draw::source_of(c);
+    for at in first..within_room(c.source) {
+        let old = get(&source, at);
+        put(&mut source, at, 65535);
+        call(at, &source);
+        put(&mut source, at, old);
     }
 }
 
 fn try_elements(c: Case) {
-    let mut source = draw::source_of(c);
     let mut luma = draw::room(7);
     let mut chroma = draw::room(7);
-    frames_with(
-        c,
-        &mut source,
-        &mut luma,
-        &mut chroma,
-        within_room(c.source),
-    );
+    each_too_large(c, 0, |at: usize, source: &Room| {
+        let n = convert_calls::convert(c, source, &mut luma, &mut chroma);
+        let t = check_calls::check(c, source, &luma, &chroma);
+        put_places(at, n, t);
+    });
 }
 
+// The elements of the second frame of two.
 fn try_second(c: Case) {
-    let mut source = draw::source_of(c);
     let mut luma = draw::room(7);
     let mut chroma = draw::room(7);
-    rings_with(
-        c,
-        &mut source,
-        &mut luma,
-        &mut chroma,
-        within_room(c.source),
-    );
+    each_too_large(c, within_room(c.source) / 2, |at: usize, source: &Room| {
+        put_ring(at, convert_ring(c, 2, source, &mut luma, &mut chroma));
+    });
 }
 
 // A window of 2×2 pixels at column 2 and row 1 of a source of 5×4, with an element of padding in each row.
 fn run_channels(channels: u32, subsampling: u32) {
-    let mut c = case::base();
-    c.channels = channels;
-    c.subsampling = subsampling;
-    c.seed = 11;
+    let c = Case {
+        channels,
+        subsampling,
+        seed: 11,
+        ..case::base()
+    };
     let d = case::windowed(case::laid(c, 2, 2, 0), 2, 1, 1, 1, 1);
     run::frame(d);
     try_elements(d);
@@ -120,8 +92,7 @@ fn run_channels(channels: u32, subsampling: u32) {
 }
 
 pub(crate) fn run() {
-    run_channels(0, 0);
-    run_channels(1, 1);
-    run_channels(2, 2);
-    run_channels(3, 0);
+    for (channels, subsampling) in [(0, 0), (1, 1), (2, 2), (3, 0)] {
+        run_channels(channels, subsampling);
+    }
 }

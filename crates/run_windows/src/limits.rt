@@ -5,128 +5,136 @@ use cases::case::Case;
 
 // A frame of one pixel, with a luma stride of 4 and a chroma stride of 6.
 fn pixel(source_stride: usize, source: usize) -> Case {
-    let mut c = case::base();
-    c.width = 1;
-    c.source_stride = source_stride;
-    c.source = source;
-    c
+    Case {
+        width: 1,
+        source_stride,
+        source,
+        ..case::base()
+    }
 }
 
 fn run_window(c: Case, first_column: usize, first_row: usize, source_rows: usize) {
-    let mut d = c;
-    d.first_column = first_column;
-    d.first_row = first_row;
-    d.source_rows = source_rows;
-    run::frame(d);
+    run::frame(Case {
+        first_column,
+        first_row,
+        source_rows,
+        ..c
+    });
 }
 
 // The first column at 16,384 and one over it; a stride that covers the window and one that does not.
 fn columns() {
-    run_window(pixel(49155, 49155), 16384, 0, 1);
-    run_window(pixel(49154, 49154), 16384, 0, 1);
-    run_window(pixel(49158, 49158), 16385, 0, 1);
-    run_window(pixel(49158, 49158), 18446744073709551615, 0, 1);
+    for (stride, first_column) in [
+        (49155, 16384),
+        (49154, 16384),
+        (49158, 16385),
+        (49158, usize::MAX),
+    ] {
+        run_window(pixel(stride, stride), first_column, 0, 1);
+    }
 }
 
 // The first row and the source rows at 16,384 and one over it.
 fn rows() {
-    run_window(pixel(3, 49152), 0, 16383, 16384);
-    run_window(pixel(3, 49152), 0, 0, 16384);
-    run_window(pixel(3, 49152), 0, 16384, 16384);
-    run_window(pixel(3, 49155), 0, 16384, 16385);
-    run_window(pixel(3, 49155), 0, 0, 16385);
-    run_window(pixel(3, 49155), 0, 16385, 16385);
-    run_window(pixel(3, 3), 0, 18446744073709551615, 1);
-    run_window(pixel(3, 3), 0, 0, 18446744073709551615);
-    run_window(pixel(3, 3), 0, 18446744073709551615, 18446744073709551615);
+    for (source, first_row, source_rows) in [
+        (49152, 16383, 16384),
+        (49152, 0, 16384),
+        (49152, 16384, 16384),
+        (49155, 16384, 16385),
+        (49155, 0, 16385),
+        (49155, 16385, 16385),
+        (3, usize::MAX, 1),
+        (3, 0, usize::MAX),
+        (3, usize::MAX, usize::MAX),
+    ] {
+        run_window(pixel(3, source), 0, first_row, source_rows);
+    }
 }
 
 // As many source rows as the window ends with, one more, one fewer, and none.
 fn ends() {
-    run_window(pixel(3, 15), 0, 4, 5);
-    run_window(pixel(3, 18), 0, 4, 6);
-    run_window(pixel(3, 12), 0, 4, 4);
-    run_window(pixel(3, 3), 0, 0, 1);
-    run_window(pixel(3, 0), 0, 0, 0);
-    run_window(pixel(3, 0), 0, 1, 0);
+    for (source, first_row, source_rows) in [
+        (15, 4, 5),
+        (18, 4, 6),
+        (12, 4, 4),
+        (3, 0, 1),
+        (0, 0, 0),
+        (0, 1, 0),
+    ] {
+        run_window(pixel(3, source), 0, first_row, source_rows);
+    }
 }
 
 // Sums that would come back to a small number if they wrapped, and every number at its largest.
 fn sums() {
-    run_window(pixel(3, 3), 18446744073709551615, 18446744073709551615, 1);
-    run_window(
-        pixel(3, 3),
-        18446744073709551613,
-        18446744073709551615,
-        18446744073709551615,
-    );
-    let mut c = pixel(18446744073709551615, 3);
-    c.luma_stride = 18446744073709551615;
-    c.chroma_stride = 18446744073709551615;
-    run_window(
-        c,
-        18446744073709551615,
-        18446744073709551615,
-        18446744073709551615,
-    );
-    c.width = 18446744073709551615;
-    c.height = 18446744073709551615;
-    run_window(
-        c,
-        18446744073709551615,
-        18446744073709551615,
-        18446744073709551615,
-    );
-    c.width = 16384;
-    c.height = 16384;
-    run_window(c, 16384, 16384, 16384);
-    run_window(c, 16384, 0, 16384);
-    c.source_stride = 65536;
-    c.luma_stride = 16384;
-    c.chroma_stride = 16384;
-    run_window(c, 0, 0, 16384);
+    const MAX: usize = usize::MAX;
+    run_window(pixel(3, 3), MAX, MAX, 1);
+    run_window(pixel(3, 3), MAX - 2, MAX, MAX);
+    let strides = Case {
+        luma_stride: MAX,
+        chroma_stride: MAX,
+        ..pixel(MAX, 3)
+    };
+    run_window(strides, MAX, MAX, MAX);
+    let size = Case {
+        width: MAX,
+        height: MAX,
+        ..strides
+    };
+    run_window(size, MAX, MAX, MAX);
+    let large = Case {
+        width: 16384,
+        height: 16384,
+        ..strides
+    };
+    run_window(large, 16384, 16384, 16384);
+    run_window(large, 16384, 0, 16384);
+    let longest = Case {
+        source_stride: 65536,
+        luma_stride: 16384,
+        chroma_stride: 16384,
+        ..large
+    };
+    run_window(longest, 0, 0, 16384);
 }
 
 // A source stride that covers the window, one element more and one fewer, in each channel layout; the longest and one over it.
-fn run_stride(channels: u32, stride: usize) {
-    let mut c = case::base();
-    c.channels = channels;
-    c.seed = 12;
-    c.source_stride = stride;
-    c.source = stride;
-    run_window(c, 2, 0, 1);
-}
-
 fn strides() {
-    run_stride(0, 9);
-    run_stride(0, 14);
-    run_stride(0, 15);
-    run_stride(0, 16);
-    run_stride(1, 19);
-    run_stride(1, 20);
-    run_stride(2, 19);
-    run_stride(2, 20);
-    run_stride(3, 14);
-    run_stride(3, 15);
-    run_stride(0, 65536);
-    run_stride(0, 65537);
+    for (channels, stride) in [
+        (0, 9),
+        (0, 14),
+        (0, 15),
+        (0, 16),
+        (1, 19),
+        (1, 20),
+        (2, 19),
+        (2, 20),
+        (3, 14),
+        (3, 15),
+        (0, 65536),
+        (0, 65537),
+    ] {
+        let c = Case {
+            channels,
+            seed: 12,
+            source_stride: stride,
+            source: stride,
+            ..case::base()
+        };
+        run_window(c, 2, 0, 1);
+    }
 }
 
 // A source of the window's rows alone, of all rows, and an element more and fewer than those.
-fn run_length(source: usize) {
-    let mut c = case::base();
-    c.seed = 13;
-    c.source = source;
-    run_window(c, 0, 1, 3);
-}
-
 fn lengths() {
-    run_length(9);
-    run_length(18);
-    run_length(26);
-    run_length(27);
-    run_length(28);
-    run_length(0);
+    for source in [9, 18, 26, 27, 28, 0] {
+        let c = Case {
+            seed: 13,
+            source,
+            ..case::base()
+        };
+        run_window(c, 0, 1, 3);
+    }
 }
 
 pub(crate) fn run() {

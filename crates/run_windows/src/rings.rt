@@ -2,6 +2,7 @@
 ghost use Rattle.std.specs.Prelude.{◌<◌};
 
 use crate::{run, sweep};
+use cases::case::Case;
 use convert_calls::rings::{end_to_end, start_of};
 
 // Frame number t % 4 has 65,535 at an element that changes from ring to ring, in the window or outside it; number 3 lies past the last.
@@ -9,9 +10,11 @@ fn run_ring(t: usize)
     requires { t < 192 }
 {
     let c = sweep::window(t);
-    let mut d = end_to_end(c, 3);
-    d.at = start_of(c.source, t % 4) + t * 7 % 60;
-    d.sample = 65535;
+    let d = Case {
+        at: start_of(c.source, t % 4) + t * 7 % 60,
+        sample: 65535,
+        ..end_to_end(c, 3)
+    };
     run::ring(d, 3);
 }
 

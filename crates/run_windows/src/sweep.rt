@@ -11,16 +11,20 @@ fn whole(t: usize) -> Case
     requires { t < 192 }
     ensures { (result.width ≤ 4) × (result.height ≤ 4) }
 {
-    let mut c = case::base();
-    c.depth = 10 + (t % 7) as u32;
-    c.matrix = (t % 5) as u32;
-    c.range = (t / 2 % 2) as u32;
-    c.subsampling = (t / 64) as u32;
-    c.order = (t / 3 % 2) as u32;
-    c.packing = (t / 5 % 2) as u32;
-    c.byte_order = (t / 7 % 2) as u32;
-    c.channels = (t / 16 % 4) as u32;
-    c.seed = (t + 500) as u32;
+    // `as` loses nothing of so small a number, where `try_from` would give a Result.
+    let n = t as u32;
+    let c = Case {
+        depth: 10 + n % 7,
+        matrix: n % 5,
+        range: n / 2 % 2,
+        subsampling: n / 64,
+        order: n / 3 % 2,
+        packing: n / 5 % 2,
+        byte_order: n / 7 % 2,
+        channels: n / 16 % 4,
+        seed: n + 500,
+        ..case::base()
+    };
     case::laid(c, 2 + (t + t / 4) % 3, 2 + (t + t / 16) % 3, t % 2)
 }
 

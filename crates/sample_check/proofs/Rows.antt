@@ -1,25 +1,18 @@
 -- The tests of a row's elements, from the row parts of the source. Assumes nothing.
-use mathlib.Core.Path.{◌≡◌, sym, ap, ◌∙◌}
+use mathlib.Core.Path.{◌≡◌, ap, ◌∙◌}
 use mathlib.Core.Bool.{Bool}
 use mathlib.Core.List.{List}
 use Prim.Native.Nat.{ℕ, ◌/◌, ◌<◌}
 use Rattle.rules.specs.declared.Settings.{Settings}
 use Rattle.rules.specs.declared.Named.{Named}
-use Rattle.rules.specs.declared.Pixel.{Pixel}
 use Rattle.rules.specs.declared.YuvChromaSubsampling.{YuvChromaSubsampling}
 use Rattle.rules.specs.Channels.{is_u}
 use Rattle.rules.specs.Blocks.{chroma_width}
-use Rattle.blocks.specs.Tiles.{left_of, wide_at, tiles}
+use Rattle.blocks.specs.Tiles.{left_of, wide_at}
 use Rattle.blocks.proofs.Tiles.{left_below, wide_below}
-use Rattle.fractions.specs.declared.Sums.{Sums}
-use Rattle.fractions.specs.Sums.{sums_of}
 use Rattle.frames.specs.Rows.{row_pixel}
 use Rattle.sample_check.specs.declared.sample.Tile.{Tile}
 use Rattle.sample_check.specs.Samples.{block_right, TileFits, tiled, tile_of, element_right}
-
--- the sums of pixels that are those of a block, by the cases that were taken
-pub summed : {a b : Bool} (a' b' : Bool) (t l : ℕ → Pixel) (x : ℕ) {r : Sums} {ps : List Pixel} → a ≡ a' → b ≡ b' → ps ≡ tiles a' b' t l x → r ≡ sums_of ps → r ≡ sums_of (tiles a b t l x)
-summed a' b' t l x p q e h = h ∙ ap sums_of (e ∙ sym (λ i. tiles (p i) (q i) t l x))
 
 -- the block of a pair, as it is worked out
 pub same_tile : (s : YuvChromaSubsampling) (width : ℕ) (two : Bool) (pair : ℕ) {x : ℕ} {w : Bool} → x ≡ left_of s pair → w ≡ wide_at s width x →

@@ -43,11 +43,8 @@ pub chroma_under : (u : Bool) (k : Named) (m bias range : ℕ) (b : List Pixel) 
 chroma_under true k m bias range b = refl
 chroma_under false k m bias range b = refl
 
--- the test of a word by cases: malformed, or formed with this code
+-- the test of a well-formed word is that of its code
 module _ (s : Settings) (bound : ℕ) (x : Exact) (v : ℕ) where
-  pub malformed : is_formed s v ≡ false → false ≡ right_by s bound x v
-  malformed e = sym (ap (λ (b : Bool). b && near_by s bound x v) e)
-
   pub formed : is_formed s v ≡ true → near_by s bound x v ≡ right_by s bound x v
   formed e = sym (ap (λ (b : Bool). b && near_by s bound x v) e)
 

@@ -2,17 +2,16 @@
 ghost use Rattle.std.specs.Prelude.{◌≡◌, ◌+◌, ◌*◌, ◌≤◌, length};
 ghost use Rattle.rules.specs.Channels.{count};
 ghost use Rattle.rule_laws.specs.Usable.{Reach};
-ghost use Rattle.fractions.specs.Exact.{Small, Exactly};
-ghost use Rattle.fractions.specs.Sums.{sums_of, own_sum, chroma_by, UpToFour, Modest};
-ghost use Rattle.check_limits.specs.Limits.{LimitsOf};
+ghost use Rattle.fractions.specs.Exact.{Small};
+ghost use Rattle.fractions.specs.Sums.{sums_of, UpToFour};
 ghost use Rattle.sample_check.specs.Samples.{near_by, right_by, pixel_right, block_right, TileFits, tiled};
 
-use check_limits::SettingsLimits;
+use check_limits::judge::Judge;
 use fractions::{Exact, Sums, block, value};
 use frames::pixels;
-use rules::{Named, Pixel, Settings, YuvSourceChannels};
+use rules::{Pixel, Settings, YuvSourceChannels};
 
-// A chroma block of a row: its first column, and whether it has a second column and a second row.
+// A chroma block of a row: its first column, and whether it has a second column and a second row, two Bools as in `tiles` of blocks/specs.
 #[derive(Clone, Copy)]
 pub struct Tile {
     pub left: usize,
@@ -26,9 +25,11 @@ fn near_by(s: Settings, bound: u64, x: Exact, v: u16) -> bool
     requires small { (Small x) × (bound ≤ 60000000000000000) }
     ensures { result ≡ near_by s bound x v }
 {
-    let packing = s.packing;
-    let endianness = s.endianness;
-    tolerance_bounds::within_bound(bound, x, storage::stored(packing, endianness, s.depth, v))
+    tolerance_bounds::within_bound(
+        bound,
+        x,
+        storage::stored(s.packing, s.endianness, s.depth, v),
+    )
 }
 
 // Whether a word is well formed and its code within a bound of an exact value.
@@ -37,37 +38,17 @@ fn right_by(s: Settings, bound: u64, x: Exact, v: u16) -> bool
     requires small { (Small x) × (bound ≤ 60000000000000000) }
     ensures { result ≡ right_by s bound x v }
 {
-    let packing = s.packing;
-    let endianness = s.endianness;
-    if !storage::well_formed(packing, endianness, s.depth, v) {
-        return false;
-    }
-    near_by(s, bound, x, v)
+    storage::well_formed(s.packing, s.endianness, s.depth, v) && near_by(s, bound, x, v)
 }
 
 // Whether a word is right as the luma of a pixel.
-pub fn luma_right(s: Settings, k: Named, limits: SettingsLimits, p: Pixel, v: u16) -> bool
-    requires reach { Reach s }
-    requires limits_of { LimitsOf s k limits }
-    ensures { result ≡ pixel_right s k p v }
+pub fn luma_right(judge: Judge, p: Pixel, v: u16) -> bool
+    ensures { result ≡ pixel_right judge.settings judge.named p v }
 {
-    let g = limits.ranges;
-    let l = limits.luma;
-    let x = value::exact_luma(k, g.bias_y, g.range_y, l.under, p);
-    right_by(s, l.bound, x, v)
-}
-
-// The exact Cb of a block where `u` is true, its exact Cr where it is false.
-fn exact_chroma(u: bool, k: Named, bias: u32, range: u32, under: u64, b: Sums) -> Exact
-    requires modest { Modest k bias range under }
-    requires up_to_four { UpToFour b }
-    ensures { Exactly (chroma_by k bias range under (own_sum u b) b) result }
-{
-    if u {
-        value::exact_cb(k, bias, range, under, b)
-    } else {
-        value::exact_cr(k, bias, range, under, b)
-    }
+    let g = judge.limits.ranges;
+    let l = judge.limits.luma;
+    let x = value::exact_luma(judge.named, g.bias_y, g.range_y, l.under, p);
+    right_by(judge.settings, l.bound, x, v)
 }
 
 // The channel sums of a block, from one or two row parts of the source.
@@ -77,26 +58,22 @@ fn sums(channels: YuvSourceChannels, width: usize, top: &[u16], low: &[u16], t: 
     ensures { (result ≡ sums_of (tiled channels top.now low.now t)) × UpToFour result }
 {
     let p = pixels::row_pixel(channels, top, width, t.left);
-    if t.wide {
-        let q = pixels::row_pixel(channels, top, width, t.left + 1);
-        if t.two {
+    match (t.wide, t.two) {
+        (false, false) => block::sums_of([p]),
+        (true, false) => block::sums_of([p, pixels::row_pixel(channels, top, width, t.left + 1)]),
+        (false, true) => block::sums_of([p, pixels::row_pixel(channels, low, width, t.left)]),
+        (true, true) => {
+            let q = pixels::row_pixel(channels, top, width, t.left + 1);
             let u = pixels::row_pixel(channels, low, width, t.left);
             let v = pixels::row_pixel(channels, low, width, t.left + 1);
-            return block::sums_of_four(p, q, u, v);
+            block::sums_of([p, q, u, v])
         }
-        return block::sums_of_two(p, q);
     }
-    if t.two {
-        return block::sums_of_two(p, pixels::row_pixel(channels, low, width, t.left));
-    }
-    block::sums_of_one(p)
 }
 
 // Whether a word is right as the Cb of a block where `u` is true, as its Cr where it is false.
 pub fn chroma_right(
-    s: Settings,
-    k: Named,
-    limits: SettingsLimits,
+    judge: Judge,
     u: bool,
     width: usize,
     top: &[u16],
@@ -104,16 +81,13 @@ pub fn chroma_right(
     t: Tile,
     v: u16,
 ) -> bool
-    requires reach { Reach s }
-    requires limits_of { LimitsOf s k limits }
     requires tile_fits { TileFits width t }
-    requires channels_in_bounds { (width * count s.channels ≤ length top.now) × (width * count s.channels ≤ length low.now) }
-    ensures { result ≡ block_right s k u (tiled s.channels top.now low.now t) v }
+    requires channels_in_bounds { (width * count judge.settings.channels ≤ length top.now) × (width * count judge.settings.channels ≤ length low.now) }
+    ensures { result ≡ block_right judge.settings judge.named u (tiled judge.settings.channels top.now low.now t) v }
 {
-    let channels = s.channels;
-    let b = sums(channels, width, top, low, t);
-    let g = limits.ranges;
-    let limit = check_limits::own_limit(limits, u, t.wide, t.two);
-    let x = exact_chroma(u, k, g.bias_uv, g.range_uv, limit.under, b);
-    right_by(s, limit.bound, x, v)
+    let b = sums(judge.settings.channels, width, top, low, t);
+    let g = judge.limits.ranges;
+    let limit = judge.limits.own_limit(u, t.wide, t.two);
+    let x = value::exact_chroma(u, judge.named, g.bias_uv, g.range_uv, limit.under, b);
+    right_by(judge.settings, limit.bound, x, v)
 }

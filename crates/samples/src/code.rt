@@ -40,7 +40,7 @@ pub fn cr_row(w: Weights) -> Triple
 fn weigh(a: i32, x: u16) -> i64
     ensures { (result ≡ a *ℤ pos x) × (nat_abs result ≤ 140737488355328) }
 {
-    (a as i64) * (x as i64)
+    i64::from(a) * i64::from(x)
 }
 
 // The weighted sum of a pixel.
@@ -63,7 +63,7 @@ pub fn signed_code(precision: u32, bias: u32, w: Triple, p: Pixel) -> i64
     requires { (1 ≤ precision) × (precision ≤ 13) × (bias ≤ 65535) }
     ensures { result ≡ signed_code precision bias w p }
 {
-    let sum = weighted(w, p) + (start(precision, bias) as i64);
+    let sum = weighted(w, p) + i64::from(start(precision, bias));
     sum >> precision
 }
 

@@ -19,11 +19,9 @@ fn word_of(s: Settings, bias: u32, w: Triple, p: Pixel) -> u16
     requires between { Between (pos 0) (pos (most s.depth)) (signed_code s.precision bias w p) }
     ensures { result ≡ word_of s bias w p }
 {
-    let packing = s.packing;
-    let endianness = s.endianness;
     storage::word(
-        packing,
-        endianness,
+        s.packing,
+        s.endianness,
         s.depth,
         code::code(s.precision, bias, w, p),
     )
@@ -35,8 +33,7 @@ pub fn luma_word(s: Settings, w: Weights, p: Pixel) -> u16
     requires low { Low (most s.depth) p }
     ensures { result ≡ word_of s (y_bias s.range s.depth) (luma_row w) p }
 {
-    let range = s.range;
-    let g = ranges::get_yuv_range(s.depth, range);
+    let g = ranges::get_yuv_range(s.depth, s.range);
     word_of(s, g.bias_y, code::luma_row(w), p)
 }
 
@@ -60,8 +57,6 @@ pub fn chroma_word(s: Settings, w: Weights, p: Pixel, element: usize) -> u16
     requires low { Low (most s.depth) p }
     ensures { result ≡ word_of s (uv_bias s.depth) (chroma_row (is_u s.order element) w) p }
 {
-    let order = s.order;
-    let range = s.range;
-    let g = ranges::get_yuv_range(s.depth, range);
-    word_of(s, g.bias_uv, chroma_row(is_u(order, element), w), p)
+    let g = ranges::get_yuv_range(s.depth, s.range);
+    word_of(s, g.bias_uv, chroma_row(is_u(s.order, element), w), p)
 }

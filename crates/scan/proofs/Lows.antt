@@ -1,17 +1,16 @@
 -- Pictures of which no sample exceeds m, and that nothing is found in them. Assumes nothing.
+use Rattle.std.proofs.Common.{None}
 use mathlib.Core.Path.{◌≡◌, sym, ap, ◌∙◌, subst}
 use mathlib.Core.Bool.{true}
 use mathlib.Core.List.{List}
 use Prim.Native.Nat.{ℕ, ◌+◌, ◌*◌, ◌/◌, ◌%◌, ◌≤◌, ◌<◌}
 use native.Mathlib.Nat.{mul-mod_left, mul-add-mod_self_right, mod-eq_of_lt}
 use native.Mathlib.Omega.{arith}
-use lib.ListN.{length, get_or}
+use lib.ListN.{get_or}
 use borrow.Author.Tests.{le-leb}
 use borrow.Author.Count.{below_more}
 use Rattle.rules.specs.declared.Frame.{Frame}
-use Rattle.rules.specs.declared.Pixel.{Pixel}
 use Rattle.rules.specs.declared.YuvSourceChannels.{YuvSourceChannels}
-use Rattle.rules.specs.declared.Search.TheVariants.{Nothing}
 use Rattle.rules.specs.Channels.{Picture, count}
 use Rattle.rules.specs.Search.{Clean}
 use Rattle.rules.specs.Frames.{window, colour_sample, low_test, too_large}
@@ -75,6 +74,6 @@ sample_low m row width px l i b = le-leb (colour_sample px row i) m (low_channel
 pub rows_clean : (m width rows : ℕ) (px : Picture) → LowPicture m px width rows → Clean (low_test m px) (3 * width) rows
 rows_clean m width rows px l = record { clean = λ row i b k. sample_low m row width px (l.low row b) i k }
 
-pub picture_nothing : (m : ℕ) (f : Frame) (px : Picture) → LowPicture m px f.width f.height → too_large m f px ≡ Nothing
+pub picture_nothing : (m : ℕ) (f : Frame) (px : Picture) → LowPicture m px f.width f.height → too_large m f px ≡ None
 unfolding too_large
 picture_nothing m f px l = clean_none (low_test m px) (3 * f.width) f.height (rows_clean m f.width f.height px l)

@@ -1,9 +1,8 @@
 -- The search for a sample that exceeds m, one row of a picture at a time. Definitions only.
 use Rattle.std.specs.Prelude.{ℕ, ◌*◌}
 use Rattle.rules.specs.declared.Frame.{Frame}
-use Rattle.rules.specs.declared.Search.{Search}
 use Rattle.rules.specs.Channels.{Picture}
-use Rattle.rules.specs.Search.{first_below, failing}
+use Rattle.rules.specs.Search.{first_below, failing, Search}
 use Rattle.rules.specs.Frames.{low_test}
 
 -- the first sample of a row of a picture that exceeds m

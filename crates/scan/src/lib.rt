@@ -2,7 +2,6 @@
 #![tactic(auto)]
 
 ghost use Rattle.std.specs.Prelude.{◌≡◌, ◌<◌, ◌≤◌, length};
-ghost use Rattle.rules.specs.Search.{is_found};
 ghost use Rattle.rules.specs.Frames.{window, too_large};
 ghost use Rattle.frames.specs.Rows.{LowPicture};
 ghost use Rattle.frames.specs.SourceRows.{WindowRows};
@@ -11,25 +10,7 @@ ghost use Rattle.scan.specs.RowSearch.{search_row};
 ghost use Rattle.frames.specs.Tests.{Sized};
 
 use frames::rows;
-use rules::{Frame, Search, YuvSourceChannels};
-
-fn is_found(s: Search) -> bool
-    ensures { result ≡ is_found s }
-{
-    match s {
-        Search::Nothing => false,
-        Search::At(row, element) => true,
-    }
-}
-
-fn least(a: usize, b: usize) -> usize
-    ensures { (result ≤ b) × (a ≤ b → result ≡ a) }
-{
-    if a <= b {
-        return a;
-    }
-    b
-}
+use rules::{Found, Frame, YuvSourceChannels};
 
 // A number that no colour sample of the four rows from `row` on exceeds; past the last row, that row is taken again.
 fn bound_from(channels: YuvSourceChannels, f: Frame, source: &[u16], row: usize) -> u64
@@ -40,9 +21,9 @@ fn bound_from(channels: YuvSourceChannels, f: Frame, source: &[u16], row: usize)
 {
     let last = f.height - 1;
     let a = rows::source_row(channels, f, source, row);
-    let b = rows::source_row(channels, f, source, least(row + 1, last));
-    let c = rows::source_row(channels, f, source, least(row + 2, last));
-    let e = rows::source_row(channels, f, source, least(row + 3, last));
+    let b = rows::source_row(channels, f, source, (row + 1).min(last));
+    let c = rows::source_row(channels, f, source, (row + 2).min(last));
+    let e = rows::source_row(channels, f, source, (row + 3).min(last));
     row_bounds::four_rows(channels, a, b, c, e)
 }
 
@@ -53,19 +34,23 @@ fn rows_low(m: u16, channels: YuvSourceChannels, f: Frame, source: &[u16]) -> us
     ensures upper_bound { result ≤ f.height }
     ensures low_picture { LowPicture m (window channels f source.now) f.width result }
 {
-    let height = f.height;
-    let mut row = 0;
-    while row < height {
-        if (m as u64) < bound_from(channels, f, source, row) {
+    for four in 0..f.height.div_ceil(4) {
+        let row = 4 * four;
+        if u64::from(m) < bound_from(channels, f, source, row) {
             return row;
         }
-        row += 4;
     }
-    height
+    f.height
 }
 
 // The first colour sample of a row that exceeds m.
-fn search_row(m: u16, channels: YuvSourceChannels, f: Frame, source: &[u16], row: usize) -> Search
+fn search_row(
+    m: u16,
+    channels: YuvSourceChannels,
+    f: Frame,
+    source: &[u16],
+    row: usize,
+) -> Option<Found>
     requires sized { Sized f }
     requires window_rows { WindowRows channels f (length source.now) }
     requires row_lt_height { row < f.height }
@@ -77,23 +62,19 @@ fn search_row(m: u16, channels: YuvSourceChannels, f: Frame, source: &[u16], row
 }
 
 // Refusal 10.
-pub fn too_large(m: u16, channels: YuvSourceChannels, f: Frame, source: &[u16]) -> Search
+pub fn too_large(m: u16, channels: YuvSourceChannels, f: Frame, source: &[u16]) -> Option<Found>
     requires sized { Sized f }
     requires window_rows { WindowRows channels f (length source.now) }
     ensures { result ≡ too_large m f (window channels f source.now) }
 {
     // no sample of 16 bits exceeds this m
     if m == 65535 {
-        return Search::Nothing;
+        return None;
     }
-    let height = f.height;
-    let mut row = rows_low(m, channels, f, source);
-    while row < height {
-        let found = search_row(m, channels, f, source, row);
-        if is_found(found) {
-            return found;
+    for row in rows_low(m, channels, f, source)..f.height {
+        if let Some(found) = search_row(m, channels, f, source, row) {
+            return Some(found);
         }
-        row += 1;
     }
-    Search::Nothing
+    None
 }

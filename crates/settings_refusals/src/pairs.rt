@@ -8,15 +8,9 @@ use rules::{Matrix, YuvBias};
 pub fn positive_pair(k: YuvBias) -> bool
     ensures { result ≡ positive_pair k }
 {
-    let kr = k.kr;
-    let kb = k.kb;
+    let YuvBias { kr, kb } = k;
     let kg = 1.0f32 - kr - kb;
-    if kr > 0.0f32 {
-        if kb > 0.0f32 {
-            return kg > 0.0f32;
-        }
-    }
-    false
+    kr > 0.0f32 && kb > 0.0f32 && kg > 0.0f32
 }
 
 // Refusal 3.

@@ -4,12 +4,11 @@ use mathlib.Core.Bool.{false}
 use Prim.Native.Nat.{◌≤◌}
 use Rattle.rules.specs.declared.Settings.{Settings}
 use Rattle.rules.specs.declared.Weights.{Weights}
-use Rattle.rules.specs.declared.Settled.{Settled}
 use Rattle.rules.specs.declared.Refusal.{Refusal}
 use Rattle.rules.specs.Matrices.{matrix_of}
 use Rattle.rules.specs.Weights.{weights_of}
 use Rattle.rules.specs.Refusals.{number_of, values_of, passes, refuses, first}
-use Rattle.rules.specs.Answers.{given, refusal, weight_values, settled_answer}
+use Rattle.rules.specs.Answers.{given, refusal, weight_values, settled_answer, Settled}
 use Rattle.rules.specs.Settle.{pair_off, weight_off, some_code_off, settle_lines, settle}
 use Rattle.rule_laws.proofs.Refusals as lines
 use Rattle.rule_laws.proofs.Answers.{one_settled, by_passing, by_refusing}

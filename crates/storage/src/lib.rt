@@ -35,12 +35,13 @@ pub fn exchanged(endianness: YuvEndianness, v: u16) -> u16
     ensures { result ≡ exchanged endianness v }
 {
     match endianness {
-        YuvEndianness::BigEndian => v % 256 * 256 + v / 256,
+        YuvEndianness::BigEndian => v.swap_bytes(),
         YuvEndianness::LittleEndian => v,
     }
 }
 
-// A code as it is stored.
+// A code as it is stored. The packing, the order and the depth are fields of the settings, so a struct of the three would only be filled from
+// those at each call.
 pub fn word(packing: YuvBytesPacking, endianness: YuvEndianness, depth: u32, code: u16) -> u16
     requires le_depth { (10 ≤ depth) × (depth ≤ 16) }
     requires code_bound { code < 2 ^ depth }
@@ -75,7 +76,7 @@ fn in_place(packing: YuvBytesPacking, depth: u32, v: u16) -> bool
 {
     match packing {
         YuvBytesPacking::MostSignificantBytes => v % (1 << (16 - depth)) == 0,
-        YuvBytesPacking::LeastSignificantBytes => (v as u32) <= (1 << depth) - 1,
+        YuvBytesPacking::LeastSignificantBytes => u32::from(v) <= (1 << depth) - 1,
     }
 }
 

@@ -3,9 +3,8 @@ use Rattle.std.specs.Prelude.{ℕ, List}
 use Rattle.rules.specs.declared.Settings.{Settings}
 use Rattle.rules.specs.declared.Named.{Named}
 use Rattle.rules.specs.declared.Frame.{Frame}
-use Rattle.rules.specs.declared.Search.{Search}
 use Rattle.rules.specs.Blocks.{chroma_width, chroma_height}
-use Rattle.rules.specs.Search.{first_failing}
+use Rattle.rules.specs.Search.{first_failing, Search}
 use Rattle.rules.specs.Frames.{shown}
 use Rattle.rules.specs.Check.{luma_test, chroma_test}
 

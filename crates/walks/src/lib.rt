@@ -3,16 +3,16 @@
 
 ghost use Rattle.std.specs.Prelude.{◌≡◌, ◌≤◌};
 
-use rules::Place;
+use rules::{Found, Place};
 
 // A place by numbers of 32 bits, which those of a frame fit.
-pub fn place_of(plane: u32, row: usize, element: usize) -> Place
-    requires { (row ≤ 65536) × (element ≤ 65536) }
-    ensures { (result.plane ≡ plane) × (result.row ≡ row) × (result.element ≡ element) }
+pub fn place_of(plane: u32, found: Found) -> Place
+    requires { (found.row ≤ 65536) × (found.element ≤ 65536) }
+    ensures { (result.plane ≡ plane) × (result.row ≡ found.row) × (result.element ≡ found.element) }
 {
     Place {
         plane,
-        row: row as u32,
-        element: element as u32,
+        row: found.row as u32,
+        element: found.element as u32,
     }
 }

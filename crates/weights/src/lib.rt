@@ -56,7 +56,7 @@ fn round_half_up(x: f32) -> u32
     ensures { pos result ≡ rounded x }
 {
     if x < 2147483648.0f32 {
-        let lifted = x as f64 + 0.00000001490116119384765625;
+        let lifted = f64::from(x) + 0.00000001490116119384765625;
         return (lifted + 4503599627370496.0 - 4503599627370496.0) as u32;
     }
     if x > 0.0f32 {
@@ -70,11 +70,9 @@ pub fn round_weight(x: f32) -> i32
     ensures { result ≡ rounded x }
 {
     if x < 0.0f32 {
-        let n = round_half_up(-x);
-        -(n as i32)
+        -(round_half_up(-x) as i32)
     } else {
-        let n = round_half_up(x);
-        n as i32
+        round_half_up(x) as i32
     }
 }
 
@@ -84,25 +82,17 @@ pub fn to_integers(f: CbCrForwardTransform, precision: u32) -> Weights
     ensures { result ≡ integers precision f }
 {
     let scale = std::num::nearest_u32_to_f32(1 << precision);
-    let yr = round_weight(f.yr * scale);
-    let yg = round_weight(f.yg * scale);
-    let yb = round_weight(f.yb * scale);
-    let cb_r = round_weight(f.cb_r * scale);
-    let cb_g = round_weight(f.cb_g * scale);
-    let cb_b = round_weight(f.cb_b * scale);
-    let cr_r = round_weight(f.cr_r * scale);
-    let cr_g = round_weight(f.cr_g * scale);
-    let cr_b = round_weight(f.cr_b * scale);
+    let whole = |x: f32| round_weight(x * scale);
     Weights {
-        yr,
-        yg,
-        yb,
-        cb_r,
-        cb_g,
-        cb_b,
-        cr_r,
-        cr_g,
-        cr_b,
+        yr: whole(f.yr),
+        yg: whole(f.yg),
+        yb: whole(f.yb),
+        cb_r: whole(f.cb_r),
+        cb_g: whole(f.cb_g),
+        cb_b: whole(f.cb_b),
+        cr_r: whole(f.cr_r),
+        cr_g: whole(f.cr_g),
+        cr_b: whole(f.cr_b),
     }
 }
 
@@ -112,10 +102,8 @@ pub fn weights_of(s: Settings) -> Weights
     ensures exact { result ≡ weights_of s }
     ensures held { Held s.matrix }
 {
-    let matrix = s.matrix;
-    let range = s.range;
-    let k = matrices::get_kr_kb(matrix);
-    let g = ranges::get_yuv_range(s.depth, range);
+    let k = matrices::get_kr_kb(s.matrix);
+    let g = ranges::get_yuv_range(s.depth, s.range);
     let m = ranges::most(s.depth);
     let f = get_forward_transform(m, g.range_y, g.range_uv, k.kr, k.kb);
     to_integers(f, s.precision)

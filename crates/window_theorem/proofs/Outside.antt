@@ -2,7 +2,7 @@
 -- Assumes nothing.
 use mathlib.Core.Path.{◌≡◌, refl, sym, ap, ◌∙◌, subst}
 use mathlib.Core.List.{List, ◌++◌}
-use Prim.Native.Nat.{ℕ, zero, suc, ◌-◌, ◌*◌, ◌<◌}
+use Prim.Native.Nat.{ℕ, zero, suc, ◌-◌}
 use native.Mathlib.Omega.{arith}
 use lib.ListN.{length, take, drop, length-drop}
 use Rattle.rules.specs.declared.Settings.{Settings}
@@ -11,7 +11,6 @@ use Rattle.rules.specs.Refusals.{first}
 use Rattle.rules.specs.Settle.{settle_lines}
 use Rattle.rules.specs.Frames.{source_size, luma_size, chroma_size}
 use Rattle.rules.specs.Ring.{ring_lines, one_then, unless, in_turn, convert_ring}
-use Rattle.plane_laws.specs.Parts.{part}
 use Rattle.frames.specs.Sources.{SameColours}
 use Rattle.rgb_to_nv_p16.proofs.Outcomes.{same_verdict, visible_colours_alone}
 use Rattle.ring_theorem.proofs.Frames.{part_first, part_later}

@@ -1,7 +1,7 @@
 -- THE THEOREM that zeros and as many source rows as the frame has give the outcome of before. Assumes nothing.
 use mathlib.Core.Path.{◌≡◌, refl, sym, ap, ◌∙◌}
 use mathlib.Core.Bool.{Bool, true, false, not, ◌||◌}
-use mathlib.Core.List.{List, [], ◌∷◌, ◌++◌}
+use mathlib.Core.List.{List, [], ◌∷◌}
 use Prim.Native.Nat.{ℕ, zero, suc, ◌+◌, ◌*◌}
 use native.Mathlib.Nat.{zero-add}
 use native.Mathlib.Omega.{arith}
@@ -20,7 +20,7 @@ use Rattle.rules.specs.Answers.{given, answer}
 use Rattle.rules.specs.Settle.{settle_lines}
 use Rattle.rules.specs.Frames.{size_off, window_off, stride_off, source_size, luma_size, chroma_size, length_off, shown, too_large, size_line, place_line, frame_lines}
 use Rattle.rules.specs.Convert.{kept, luma_written, chroma_written, verdict, convert, luma_after, chroma_after}
-use Rattle.rules.specs.Ring.{count_line, ring_lines, untouched, one_then, unless, in_turn, convert_ring}
+use Rattle.rules.specs.Ring.{count_line, ring_lines, one_then, unless, in_turn, convert_ring}
 use Rattle.rules.specs.Check.{custom_line, judged_by, check}
 use Rattle.rule_laws.proofs.Refusals.{stopped, skipped, inside, after_same}
 use Rattle.plane_laws.proofs.Tests.{or_no}

@@ -1,4 +1,5 @@
-// Where a pixel's samples stand in the source, and U and V in a chroma pair.
+// Where a pixel's samples stand in the source, and U and V in a chroma pair. Each function is a row of the rule's tables, under the name that it
+// has in src/yuv_support.rs: one function of a row's number would be no plainer.
 ghost use Rattle.std.specs.Prelude.{◌≡◌};
 ghost use Rattle.rules.specs.Channels.{count, red_at, green_at, blue_at, has_alpha, alpha_at, u_at, v_at};
 
@@ -8,10 +9,8 @@ pub fn get_channels_count(channels: YuvSourceChannels) -> usize
     ensures { result ≡ count channels }
 {
     match channels {
-        YuvSourceChannels::Rgb => 3,
-        YuvSourceChannels::Rgba => 4,
-        YuvSourceChannels::Bgra => 4,
-        YuvSourceChannels::Bgr => 3,
+        YuvSourceChannels::Rgb | YuvSourceChannels::Bgr => 3,
+        YuvSourceChannels::Rgba | YuvSourceChannels::Bgra => 4,
     }
 }
 
@@ -19,10 +18,8 @@ pub fn get_r_channel_offset(channels: YuvSourceChannels) -> usize
     ensures { result ≡ red_at channels }
 {
     match channels {
-        YuvSourceChannels::Rgb => 0,
-        YuvSourceChannels::Rgba => 0,
-        YuvSourceChannels::Bgra => 2,
-        YuvSourceChannels::Bgr => 2,
+        YuvSourceChannels::Rgb | YuvSourceChannels::Rgba => 0,
+        YuvSourceChannels::Bgra | YuvSourceChannels::Bgr => 2,
     }
 }
 
@@ -30,10 +27,10 @@ pub fn get_g_channel_offset(channels: YuvSourceChannels) -> usize
     ensures { result ≡ green_at channels }
 {
     match channels {
-        YuvSourceChannels::Rgb => 1,
-        YuvSourceChannels::Rgba => 1,
-        YuvSourceChannels::Bgra => 1,
-        YuvSourceChannels::Bgr => 1,
+        YuvSourceChannels::Rgb
+        | YuvSourceChannels::Rgba
+        | YuvSourceChannels::Bgra
+        | YuvSourceChannels::Bgr => 1,
     }
 }
 
@@ -41,34 +38,22 @@ pub fn get_b_channel_offset(channels: YuvSourceChannels) -> usize
     ensures { result ≡ blue_at channels }
 {
     match channels {
-        YuvSourceChannels::Rgb => 2,
-        YuvSourceChannels::Rgba => 2,
-        YuvSourceChannels::Bgra => 0,
-        YuvSourceChannels::Bgr => 0,
+        YuvSourceChannels::Rgb | YuvSourceChannels::Rgba => 2,
+        YuvSourceChannels::Bgra | YuvSourceChannels::Bgr => 0,
     }
 }
 
 pub fn has_alpha(channels: YuvSourceChannels) -> bool
     ensures { result ≡ has_alpha channels }
 {
-    match channels {
-        YuvSourceChannels::Rgb => false,
-        YuvSourceChannels::Rgba => true,
-        YuvSourceChannels::Bgra => true,
-        YuvSourceChannels::Bgr => false,
-    }
+    matches!(channels, YuvSourceChannels::Rgba | YuvSourceChannels::Bgra)
 }
 
 // 0 where there is no alpha.
 pub fn get_a_channel_offset(channels: YuvSourceChannels) -> usize
     ensures { result ≡ alpha_at channels }
 {
-    match channels {
-        YuvSourceChannels::Rgb => 0,
-        YuvSourceChannels::Rgba => 3,
-        YuvSourceChannels::Bgra => 3,
-        YuvSourceChannels::Bgr => 0,
-    }
+    if has_alpha(channels) { 3 } else { 0 }
 }
 
 pub fn get_u_position(order: YuvNVOrder) -> usize

@@ -1,6 +1,6 @@
 -- `frame_check::check` meets its contract, for every input.
-use mathlib.Core.Path.{sym, ap, ◌∙◌}
-use Rattle.rules.specs.Answers.{settled_answer}
+use Rattle.std.proofs.lemmas.Result.{err_from_is_err_and}
+use mathlib.Core.Path.{sym}
 use Rattle.rules.specs.Settle.{settle_lines}
 use Rattle.rules.specs.Check.{judgement, check}
 use Rattle.rule_laws.proofs.Refusals.{passed_on, refused_before}
@@ -9,16 +9,18 @@ use Rattle.rule_laws.proofs.Settling.{weighed_passes, refused_refuses}
 use Rattle.check_laws.proofs.Joined.{carried}
 use Rattle.frame_check.proofs.check.Goals as goal
 
-pub returns-in-Refused : goal.returns-in-Refused
+pub returns-in_err-settle : goal.returns-in_err-settle
 unfolding check
-returns-in-Refused c =
+returns-in_err-settle c =
     let v = c.args in
-    by_refusing (judgement v.s v.f v.source.now v.luma.now v.chroma.now)
-    (refused_before (settle_lines v.s) _ (refused_refuses v.s _ _ (sym (ap settled_answer c.in-Refused.is) ∙ c.settle-settled.ensures.exact)))
+    let p = err_from_is_err_and c.from_residual.result c.from_residual.ensures.1 in
+    rw (p.1, p.2)
+    (by_refusing (judgement v.s v.f v.source.now v.luma.now v.chroma.now)
+    (refused_before (settle_lines v.s) _ (refused_refuses v.s _ _ c.in_err-settle.ensures.exact)))
 
-pub returns-in-Weighed : goal.returns-in-Weighed
+pub returns : goal.returns
 unfolding check
-returns-in-Weighed c =
+returns c =
     let v = c.args in
     carried (judgement v.s v.f v.source.now v.luma.now v.chroma.now)
-    (sym (passed_on (settle_lines v.s) _ (weighed_passes v.s _ (sym (ap settled_answer c.in-Weighed.is) ∙ c.settle-settled.ensures.exact)).0)) c.check_matrix.ensures
+    (sym (passed_on (settle_lines v.s) _ (weighed_passes v.s _ c.in_ok-settle.ensures.exact).0)) c.check_matrix.ensures

@@ -7,12 +7,12 @@ use Rattle.frame_check.proofs.check_settled.Goals as goal
 
 pub place_of-requires : goal.place_of-requires
 place_of-requires c =
-    let w = found_wrong _ _ _ _ _ (sym c.walk_luma-in_luma.ensures ∙ c.in-At.is) in
+    let w = found_wrong _ _ _ _ _ (sym c.walk_luma.ensures ∙ c.in-Some.is) in
     let z = c.requires.ready.sized in
     (omega (arith, w.below, z.flat), omega (arith, w.inside, z.narrow))
 
-pub place_of-requires-in-At-in_chroma : goal.place_of-requires-in-At-in_chroma
-place_of-requires-in-At-in_chroma c =
-    let w = found_wrong _ _ _ _ _ (sym c.walk_chroma-in_chroma.ensures ∙ c.in-At-in_chroma.is) in
+pub place_of-requires-2 : goal.place_of-requires-2
+place_of-requires-2 c =
+    let w = found_wrong _ _ _ _ _ (sym c.walk_chroma.ensures ∙ c.in_ok-found.was) in
     let z = c.requires.ready.sized in
-    (omega (arith, w.below, height_small c.args.s.subsampling c.args.f.height, z.flat), omega (arith, w.inside, width_small c.args.s.subsampling c.args.f.width, z.narrow))
+    (omega (arith, w.below, height_small c.new-judge.result.settings.subsampling c.args.f.height, z.flat), omega (arith, w.inside, width_small c.new-judge.result.settings.subsampling c.args.f.width, z.narrow))

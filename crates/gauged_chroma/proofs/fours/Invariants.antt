@@ -1,6 +1,5 @@
 use mathlib.Core.Bool.{true}
-use mathlib.Core.List.{[]}
-use Prim.Native.Nat.{ℕ, ◌*◌, ◌/◌, ◌-◌}
+use Prim.Native.Nat.{ℕ, ◌*◌, ◌/◌}
 use Rattle.blocks.specs.Tiles.{tiles}
 use Rattle.fractions.specs.Sums.{sums_of}
 use Rattle.frames.specs.Rows.{row_pixel}
@@ -10,6 +9,3 @@ use Rattle.gauged_chroma.proofs.fours.Given as goal
 
 abbrev pub invariant-loop-pair : goal.invariant-loop-pair
 invariant-loop-pair l = Passed (λ (x : ℕ). pair_near l.ruler (sums_of (tiles true true (row_pixel l.ruler.channels l.top) (row_pixel l.ruler.channels l.low) (2 * x))) l.chroma x) (l.width / 2) l.pair
-
-abbrev pub decreases-loop-pair : goal.decreases-loop-pair
-decreases-loop-pair l = l.width / 2 - l.pair

@@ -1,5 +1,5 @@
 use mathlib.Core.List.{[], ◌∷◌}
-use Prim.Native.Nat.{ℕ, ◌-◌}
+use Prim.Native.Nat.{ℕ}
 use lib.ListN.{get_or}
 use Rattle.rules.specs.Storage.{exchanged}
 use Rattle.fractions.specs.Sums.{sums_of}
@@ -10,6 +10,3 @@ use Rattle.gauged_luma.proofs.run.Given as goal
 
 abbrev pub invariant-loop-e : goal.invariant-loop-e
 invariant-loop-e l = Passed (λ (x : ℕ). luma_near l.g l.h (sums_of (row_pixel l.channels l.pixels x ∷ [])) (exchanged l.endianness (get_or l.luma x 0))) l.width l.e
-
-abbrev pub decreases-loop-e : goal.decreases-loop-e
-decreases-loop-e l = l.width - l.e

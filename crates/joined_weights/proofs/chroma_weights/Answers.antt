@@ -5,7 +5,7 @@ use native.Mathlib.Omega.{arith}
 use lib.IntN.{ℤ, pos, nat_abs}
 use mir.Syntax.{w32}
 use mir.Val.{to_z, of_z}
-use Rattle.joined_weights.specs.JoinedWeights.{scaled_start, joined_weights, NoWeightAbove}
+use Rattle.joined_weights.specs.JoinedWeights.{scaled_start, NoWeightAbove}
 use Rattle.joined_weights.proofs.Products.{got32}
 use Rattle.joined_weights.proofs.Sizes.{start_small, scaled_modest}
 use Rattle.joined_weights.proofs.chroma_weights.Goals as goal

@@ -1,5 +1,4 @@
 -- `layout_verdict::layout_verdict` meets its contract.
-use borrow.Author.Rules.{rules}
 use mathlib.Core.Path.{◌≡◌, sym, ◌∙◌}
 use mathlib.Core.Bool.{Bool, false}
 use Rattle.rules.specs.Frames.{size_off, window_off, stride_off, length_off}

@@ -1,5 +1,4 @@
 -- `packed_blocks::luma_loop` meets its contract.
-use Prim.Native.Nat.{◌-◌}
 use native.Mathlib.Omega.{arith}
 use Rattle.plane_laws.proofs.Tables.{begun_at}
 use Rattle.packed_store.proofs.Turns.{TwoColumns, TwoPixels, columns, pixels, ended, luma_turn}

@@ -1,9 +1,6 @@
 -- `restored_frame::restore_rows` meets its contract: the rows passed are written.
-use Prim.Native.Nat.{◌-◌}
-use native.Mathlib.Omega.{arith}
-use Rattle.rules.specs.Planes.{written}
 use Rattle.plane_laws.proofs.Planes.{plane_none}
 use Rattle.restored_frame.proofs.restore_rows.Goals as goal
 
 pub loop-row-init : goal.loop-row-init
-loop-row-init c = (omega arith, plane_none _ _ _ _)
+loop-row-init c = plane_none _ _ _ _

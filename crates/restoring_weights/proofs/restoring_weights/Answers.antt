@@ -39,19 +39,19 @@ module _ (c : After-struct_known-1) where
   scale_is = c.scale_of-scale.ensures.0
 
   abbrev word_y : ℕ
-  word_y = c.get_yuv_range-g.result.bias_y * c.packing_factor-factor.result
+  word_y = c.get_yuv_range-g.result.bias_y * c.from-factor.result
 
   y_is : word_y ≡ bias_word_y s
-  y_is = λ i. (c.get_yuv_range-g.ensures i).bias_y * c.packing_factor-factor.ensures.0 i
+  y_is = λ i. (c.get_yuv_range-g.ensures i).bias_y * (c.from-factor.ensures ∙ c.packing_factor.ensures.0) i
 
   y_small : word_y ≤ 4096
   y_small = subst⁻¹ (λ (n : ℕ). n ≤ 4096) y_is (word_y_small s reach)
 
   abbrev word_uv : ℕ
-  word_uv = c.get_yuv_range-g.result.bias_uv * c.packing_factor-factor.result
+  word_uv = c.get_yuv_range-g.result.bias_uv * c.from-factor.result
 
   uv_is : word_uv ≡ bias_word_uv s
-  uv_is = λ i. (c.get_yuv_range-g.ensures i).bias_uv * c.packing_factor-factor.ensures.0 i
+  uv_is = λ i. (c.get_yuv_range-g.ensures i).bias_uv * (c.from-factor.ensures ∙ c.packing_factor.ensures.0) i
 
   uv_small : word_uv ≤ 32768
   uv_small = subst⁻¹ (λ (n : ℕ). n ≤ 32768) uv_is (word_uv_small s reach)
@@ -90,10 +90,12 @@ module _ (c : After-weigh) where
   e = (goal.at.After-weigh c).After-scaled-luma
 
   abbrev start : ℤ
-  start = to_z w64 (of_z w64 (to_z w64 c.rounding.result -ℤ to_z w64 (of_z w64 c.weigh.result)))
+  start = to_z w64 (of_z w64 (to_z w64 (of_z w64 c.from.result) -ℤ to_z w64 (of_z w64 c.weigh.result)))
 
   start_worked : start ≡ pos c.rounding.result -ℤ luma e *ℤ pos (word_y (d e))
-  start_worked = start_back c.rounding.result (word_y (d e)) (luma e) c.rounding.ensures.1 (luma_small e) (y_small (d e)) c.weigh.ensures.0
+  start_worked =
+      ap (λ (z : ℤ). to_z w64 (of_z w64 (to_z w64 (of_z w64 z) -ℤ to_z w64 (of_z w64 c.weigh.result)))) c.from.ensures
+      ∙ start_back c.rounding.result (word_y (d e)) (luma e) c.rounding.ensures.1 (luma_small e) (y_small (d e)) c.weigh.ensures.0
 
   start_is : start ≡ luma_start (s (d e)) (w (d e))
   start_is = start_worked ∙ (λ i. pos (c.rounding.ensures.0 i) -ℤ luma_is e i *ℤ pos (y_is (d e) i))
@@ -106,25 +108,25 @@ module _ (c : After-weigh) where
 pub outer_weights-first-requires-clause-bias_bound : goal.outer_weights-first-requires-clause-bias_bound
 outer_weights-first-requires-clause-bias_bound c =
     let k = d (e (goal.at.outer_weights-first-requires-clause-bias_bound c).After-weigh) in
-    let x = side_small (s k) (reach k) (scale_is k) c.first_side.ensures (first_small (within k) (s k).channels (s k).order) in
+    let x = side_small (s k) (reach k) (scale_is k) (λ i. (c.sides.ensures i).0) (first_small (within k) (s k).channels (s k).order) in
     (omega (arith, uv_small k), begin (goal.at.outer_weights-first-requires-clause-bias_bound c).After-weigh)
 
 pub outer_weights-first-requires-clause-at_bound : goal.outer_weights-first-requires-clause-at_bound
 outer_weights-first-requires-clause-at_bound c =
     let k = d (e (goal.at.outer_weights-first-requires-clause-at_bound c).After-weigh) in
-    let x = side_small (s k) (reach k) (scale_is k) c.first_side.ensures (first_small (within k) (s k).channels (s k).order) in
+    let x = side_small (s k) (reach k) (scale_is k) (λ i. (c.sides.ensures i).0) (first_small (within k) (s k).channels (s k).order) in
     x
 
 pub outer_weights-third-requires-clause-at_bound : goal.outer_weights-third-requires-clause-at_bound
 outer_weights-third-requires-clause-at_bound c =
     let k = d (e (goal.at.outer_weights-third-requires-clause-at_bound c).After-weigh) in
-    let x = side_small (s k) (reach k) (scale_is k) c.third_side.ensures (third_small (within k) (s k).channels (s k).order) in
+    let x = side_small (s k) (reach k) (scale_is k) (λ i. (c.sides.ensures i).1) (third_small (within k) (s k).channels (s k).order) in
     x
 
 pub outer_weights-third-requires-clause-bias_bound : goal.outer_weights-third-requires-clause-bias_bound
 outer_weights-third-requires-clause-bias_bound c =
     let k = d (e (goal.at.outer_weights-third-requires-clause-bias_bound c).After-weigh) in
-    let x = side_small (s k) (reach k) (scale_is k) c.third_side.ensures (third_small (within k) (s k).channels (s k).order) in
+    let x = side_small (s k) (reach k) (scale_is k) (λ i. (c.sides.ensures i).1) (third_small (within k) (s k).channels (s k).order) in
     (omega (arith, uv_small k), begin (goal.at.outer_weights-third-requires-clause-bias_bound c).After-weigh)
 
 -- ---- the weights of the first and the third element
@@ -141,7 +143,7 @@ module _ (c : After-struct_told-2-1) where
   first_is : first ≡ outer_of (s k) (w k) (first_side (s k).channels (s k).order (w k))
   first_is =
       c.outer_weights-first.ensures.0
-      ∙ (λ i. outer_weights (scale_is k i) (uv_is k i) (start_is b i) (c.first_side.ensures i))
+      ∙ (λ i. outer_weights (scale_is k i) (uv_is k i) (start_is b i) ((c.sides.ensures i).0))
 
   abbrev third : OuterWeights
   third = c.outer_weights-third.result
@@ -149,7 +151,7 @@ module _ (c : After-struct_told-2-1) where
   third_is : third ≡ outer_of (s k) (w k) (third_side (s k).channels (s k).order (w k))
   third_is =
       c.outer_weights-third.ensures.0
-      ∙ (λ i. outer_weights (scale_is k i) (uv_is k i) (start_is b i) (c.third_side.ensures i))
+      ∙ (λ i. outer_weights (scale_is k i) (uv_is k i) (start_is b i) ((c.sides.ensures i).1))
 
   first_made : SmallOuter first
   first_made = c.outer_weights-first.ensures.1

@@ -1,26 +1,26 @@
 -- `rgb_to_nv_p16::convert` meets its contract, for every input.
-use mathlib.Core.Path.{sym, ap, ◌∙◌}
-use Rattle.rules.specs.Answers.{settled_answer}
+use Rattle.std.proofs.lemmas.Result.{err_from_is_err_and}
+use Rattle.rule_laws.proofs.Answers.{converted_by_line}
 use Rattle.rgb_to_nv_p16.proofs.Verdicts.{refused_settings, answered}
 use Rattle.rgb_to_nv_p16.proofs.convert.Goals as goal
 
-pub returns-in-Refused-clause-answer : goal.returns-in-Refused-clause-answer
-returns-in-Refused-clause-answer c =
+pub returns-in_err-w-clause-answer : goal.returns-in_err-w-clause-answer
+returns-in_err-w-clause-answer c =
     let v = c.args in
-    (refused_settings v.s v.f v.source.now v.luma.now v.chroma.now _ _ (sym (ap settled_answer c.in-Refused.is) ∙ c.settle-settled.ensures.exact)).0
+    let p = err_from_is_err_and c.from_residual.result c.from_residual.ensures.1 in
+    rw (p.1, p.2) (refused_settings v.s v.f v.source.now v.luma.now v.chroma.now _ _ c.in_err-w.ensures.exact).0
 
-pub returns-in-Refused-clause-chroma : goal.returns-in-Refused-clause-chroma
-returns-in-Refused-clause-chroma c =
+pub returns-in_err-w-clause-luma : goal.returns-in_err-w-clause-luma
+returns-in_err-w-clause-luma c =
     let v = c.args in
-    (refused_settings v.s v.f v.source.now v.luma.now v.chroma.now _ _ (sym (ap settled_answer c.in-Refused.is) ∙ c.settle-settled.ensures.exact)).1.1
+    (refused_settings v.s v.f v.source.now v.luma.now v.chroma.now _ _ c.in_err-w.ensures.exact).1.0
 
-pub returns-in-Refused-clause-luma : goal.returns-in-Refused-clause-luma
-returns-in-Refused-clause-luma c =
+pub returns-in_err-w-clause-chroma : goal.returns-in_err-w-clause-chroma
+returns-in_err-w-clause-chroma c =
     let v = c.args in
-    (refused_settings v.s v.f v.source.now v.luma.now v.chroma.now _ _ (sym (ap settled_answer c.in-Refused.is) ∙ c.settle-settled.ensures.exact)).1.0
+    (refused_settings v.s v.f v.source.now v.luma.now v.chroma.now _ _ c.in_err-w.ensures.exact).1.1
 
-pub returns-in-Weighed-clause-answer : goal.returns-in-Weighed-clause-answer
-returns-in-Weighed-clause-answer c =
+pub returns-clause-answer : goal.returns-clause-answer
+returns-clause-answer c =
     let v = c.args in
-    let e = c.convert_settled.ensures in
-    answered v.s v.f v.source.now v.luma.now v.chroma.now c.answer_of.ensures e.verdict
+    answered v.s v.f v.source.now v.luma.now v.chroma.now (converted_by_line c.convert_settled.result) c.convert_settled.ensures.verdict

@@ -1,5 +1,4 @@
 -- `ring_refusals::ring_verdict` meets its contract.
-use borrow.Author.Rules.{rules}
 use mathlib.Core.Path.{◌≡◌, sym, ◌∙◌}
 use mathlib.Core.Bool.{Bool, false}
 use Rattle.rules.specs.Refusals.{outside}

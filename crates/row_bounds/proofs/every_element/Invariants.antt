@@ -1,10 +1,5 @@
-use Prim.Native.Nat.{◌≤◌, ◌-◌}
-use lib.ListN.{length}
 use Rattle.row_bounds.specs.Bounds.{BoundsBelow}
 use Rattle.row_bounds.proofs.every_element.Given as goal
 
 abbrev pub invariant-loop-i : goal.invariant-loop-i
-invariant-loop-i l = (l.i ≤ length l.a) × BoundsBelow l.bound 3 l.a l.b l.c l.e l.i
-
-abbrev pub decreases-loop-i : goal.decreases-loop-i
-decreases-loop-i l = length l.a - l.i
+invariant-loop-i l = BoundsBelow l.bound 3 l.a l.b l.c l.e l.i

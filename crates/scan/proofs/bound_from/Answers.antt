@@ -1,5 +1,7 @@
 -- `scan::bound_from` meets its contract.
 use native.Mathlib.Omega.{arith}
+use Rattle.std.proofs.Common.{◌∙◌}
+use Rattle.std.proofs.Math.Nat.{min-eq_left}
 use Rattle.scan.proofs.Lows.{low_four}
 use Rattle.scan.proofs.bound_from.Goals as goal
 
@@ -10,6 +12,6 @@ returns c =
     let three = c.source_row-c.ensures in
     let four = c.source_row-e.ensures in
     low_four one two three four c.four_rows.ensures
-    (λ h. c.least.ensures.1 (omega (arith, h)))
-    (λ h. c.least-2.ensures.1 (omega (arith, h)))
-    (λ h. c.least-3.ensures.1 (omega (arith, h)))
+    (λ h. c.min.ensures ∙ min-eq_left (omega (arith, h)))
+    (λ h. c.min-2.ensures ∙ min-eq_left (omega (arith, h)))
+    (λ h. c.min-3.ensures ∙ min-eq_left (omega (arith, h)))

@@ -1,5 +1,4 @@
 -- `settle::settle` meets its contract.
-use borrow.Author.Rules.{rules}
 use mathlib.Core.Path.{◌≡◌, sym, ap, ◌∙◌}
 use mathlib.Core.Bool.{Bool, true, false}
 use Rattle.rules.specs.declared.Settings.{Settings}

@@ -1,45 +1,39 @@
 -- `weight_nearness::all_near` meets its contract.
-use mathlib.Core.Path.{◌≡◌, sym, ap, ◌∙◌}
-use Prim.Native.Nat.{◌-◌, ◌*◌}
-use lib.IntN.{pos, neg_ℤ}
-use Rattle.rules.specs.declared.Triple.{Triple}
-use Rattle.rules.specs.Matrices.{kg}
-use Rattle.rules.specs.Weights.{luma_row, cb_row, cr_row}
-use Rattle.rules.specs.Settle.{row_near, all_near}
+use Rattle.std.proofs.Common.{◌≡◌, ℕ, ◌*◌, ◌^◌, ◌≤◌, ◌<◌, arith, unsigned_abs, w64, ℤ, pos, ◌-ℤ◌, to_z, of_z}
+use Rattle.std.proofs.lemmas.Int.{ints}
+use Rattle.std.proofs.lemmas.Grind.{common_steps}
+use Rattle.std.proofs.Math.Nat.{mul-le-mul}
+use lib.IntN.{neg_ℤ}
+use lib.Signed.{mag}
+use Rattle.rules.specs.Settle.{all_near}
 use Rattle.weight_nearness.proofs.all_near.Goals as goal
-use Rattle.weight_nearness.proofs.all_near.Goals.{After-row_near, After-row_near-then-row_near, After-row_near-then-row_near-2}
 
--- what each call answered
-luma : (c : After-row_near) → let a = c.args in c.row_near.result ≡ row_near a.precision (10000 * a.m) (luma_row a.w) (pos (a.k.kr * a.y)) (pos (kg a.k * a.y)) (pos (a.k.kb * a.y))
-luma c =
-    let a = c.args in
-    c.row_near.ensures ∙ ap (λ (t : Triple). row_near a.precision (10000 * a.m) t (pos (a.k.kr * a.y)) (pos (kg a.k * a.y)) (pos (a.k.kb * a.y))) c.luma_row.ensures
+negated : (x : ℤ) (n : ℕ) → x ≡ pos n → mag x < 2 ^ 63 → to_z w64 (of_z w64 (pos 0 -ℤ to_z w64 (of_z w64 x))) ≡ neg_ℤ (pos n)
+negated x n e h = omega (arith, ints)
 
-cb : (c : After-row_near-then-row_near) → let a = c.args in c.row_near-then-row_near.result ≡ row_near a.precision (2 * (10000 - a.k.kb) * a.m) (cb_row a.w) (neg_ℤ (pos (a.k.kr * a.uv))) (neg_ℤ (pos (kg a.k * a.uv))) (pos ((10000 - a.k.kb) * a.uv))
-cb c =
-    let a = c.args in
-    c.row_near-then-row_near.ensures ∙ ap (λ (t : Triple). row_near a.precision (2 * (10000 - a.k.kb) * a.m) t (neg_ℤ (pos (a.k.kr * a.uv))) (neg_ℤ (pos (kg a.k * a.uv))) (pos ((10000 - a.k.kb) * a.uv))) c.cb_row.ensures
+small : (x : ℤ) (a b : ℕ) → x ≡ pos (a * b) → a ≤ 10000 → b < 65536 → unsigned_abs (to_z w64 (of_z w64 (pos 0 -ℤ to_z w64 (of_z w64 x)))) < 4294967296
+small x a b e h k =
+    let l : a * b ≤ 10000 * 65536 = mul-le-mul h (let m : b ≤ 65536 = omega arith in m) in
+    omega (arith, ints)
 
-cr : (c : After-row_near-then-row_near-2) → let a = c.args in c.row_near-then-row_near-2.result ≡ row_near a.precision (2 * (10000 - a.k.kr) * a.m) (cr_row a.w) (pos ((10000 - a.k.kr) * a.uv)) (neg_ℤ (pos (kg a.k * a.uv))) (neg_ℤ (pos (a.k.kb * a.uv)))
-cr c =
+pub row_near-requires-then-row_near-clause-small :
+    goal.row_near-requires-then-row_near-clause-small
+row_near-requires-then-row_near-clause-small c =
     let a = c.args in
-    c.row_near-then-row_near-2.ensures ∙ ap (λ (t : Triple). row_near a.precision (2 * (10000 - a.k.kr) * a.m) t (pos ((10000 - a.k.kr) * a.uv)) (neg_ℤ (pos (kg a.k * a.uv))) (neg_ℤ (pos (a.k.kb * a.uv)))) c.cr_row.ensures
+    (small _ a.k.kr a.uv c.from-cb_r.ensures (omega arith) (omega arith), small _ _ a.uv c.from-c_g.ensures (omega arith) (omega arith), grind (arith, ints))
 
 pub returns-then-row_near-2 : goal.returns-then-row_near-2
 unfolding all_near
 returns-then-row_near-2 c =
-    let p = sym (luma (goal.at.returns-then-row_near-2 c).After-row_near) ∙ c.if-row_near.true in
-    let q = sym (cb (goal.at.returns-then-row_near-2 c).After-row_near-then-row_near) ∙ c.if-row_near-2.true in
-    simp (p, q) (cr (goal.at.returns-then-row_near-2 c).After-row_near-then-row_near-2)
+    let p = negated c.from-cb_r.result _ c.from-cb_r.ensures (omega arith) in
+    let q = negated c.from-c_g.result _ c.from-c_g.ensures (omega arith) in
+    let r = negated c.from-cr_b.result _ c.from-cr_b.ensures (omega arith) in
+    grind (arith, common_steps)
 
 pub returns-else-row_near-2 : goal.returns-else-row_near-2
 unfolding all_near
 returns-else-row_near-2 c =
-    let p = sym (luma (goal.at.returns-else-row_near-2 c).After-row_near) ∙ c.if-row_near.true in
-    let q = sym (cb (goal.at.returns-else-row_near-2 c).After-row_near-then-row_near) ∙ c.if-row_near-2.false in
-    simp (p, q)
-
-pub returns-else-row_near : goal.returns-else-row_near
-unfolding all_near
-returns-else-row_near c =
-    let p = sym (luma (goal.at.returns-else-row_near c).After-row_near) ∙ c.if-row_near.false in simp p
+    let p = negated c.from-cb_r.result _ c.from-cb_r.ensures (omega arith) in
+    let q = negated c.from-c_g.result _ c.from-c_g.ensures (omega arith) in
+    let r = negated c.from-cr_b.result _ c.from-cr_b.ensures (omega arith) in
+    grind (arith, common_steps)

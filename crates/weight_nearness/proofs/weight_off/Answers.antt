@@ -1,7 +1,6 @@
 -- `weight_nearness::weight_off` meets its contract.
 use mathlib.Core.Path.{sym, ap, ◌∙◌}
 use native.Mathlib.Omega.{arith}
-use Rattle.rules.specs.Settle.{weight_off}
 use Rattle.yuv_support.specs.declared.ranges.YuvChromaRange.{YuvChromaRange}
 use Rattle.rule_laws.proofs.Depths.{sane, tabled_sum}
 use Rattle.weight_nearness.proofs.weight_off.Goals as goal

@@ -5,22 +5,23 @@ use Rattle.rules.specs.Weights.{rounded}
 use Rattle.float_laws.proofs.Rounding.{rounds_big, rounds_none}
 use Rattle.float_laws.proofs.Sums.{summed, rounds_by_sums}
 use Rattle.weights.proofs.round_half_up.Goals as goal
-use Rattle.weights.proofs.round_half_up.Goals.{Start, Then-x}
+use Rattle.weights.proofs.round_half_up.Goals.{Start, After-from-lifted}
 
 held : (c : Start) → T (fits binary32 c.args.x)
 held c = subst T (sym c.well_formed.0.1) tt
 
-by_sums : (c : Then-x) → T (in_unsigned binary64 32 (summed c.args.x)) × (pos (to_unsigned 32 (summed c.args.x)) ≡ rounded c.args.x)
+by_sums : (c : After-from-lifted) → let v = c.from-lifted.result in
+    T (in_unsigned binary64 32 (summed v)) × (pos (to_unsigned 32 (summed v)) ≡ rounded c.args.x)
 unfolding of_bits
-by_sums c = rounds_by_sums c.args.x (held (goal.at.Then-x c).Start) c.requires c.if-x.true
+by_sums c = rw c.from-lifted.ensures (rounds_by_sums c.args.x (held (goal.at.After-from-lifted c).Start) c.requires c.if-x.true)
 
 pub float_to_int-result : goal.float_to_int-result
 unfolding of_bits
-float_to_int-result c = (by_sums (goal.at.float_to_int-result c).Then-x).0
+float_to_int-result c = (by_sums (goal.at.float_to_int-result c).After-from-lifted).0
 
 pub returns-then-x : goal.returns-then-x
 unfolding of_bits
-returns-then-x c = (by_sums (goal.at.returns-then-x c).Then-x).1
+returns-then-x c = (by_sums (goal.at.returns-then-x c).After-from-lifted).1
 
 pub returns-then-x-2 : goal.returns-then-x-2
 unfolding of_bits

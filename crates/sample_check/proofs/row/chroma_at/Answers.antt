@@ -6,4 +6,4 @@ use Rattle.sample_check.proofs.row.chroma_at.Goals as goal
 pub returns : goal.returns
 returns c =
     let a = c.args in
-    element_is a.s a.k a.width a.two a.top.now a.low.now a.e (get_or a.chroma.now a.e 0) c.is_u.ensures c.tile-t.ensures c.chroma_right.ensures
+    element_is a.judge.settings a.judge.named a.width a.two a.top.now a.low.now a.e (get_or a.chroma.now a.e 0) c.is_u.ensures c.tile-t.ensures c.chroma_right.ensures

@@ -12,5 +12,5 @@ unfolding signed_code
 returns c =
     let b = c.args.bias in
     let p = c.args.precision in
-    shifted_sum b p c.requires.2 c.requires.0 c.requires.1 c.weighted.result _ c.weighted.ensures.1 c.start.ensures
+    shifted_sum b p c.requires.2 c.requires.0 c.requires.1 c.weighted.result _ c.weighted.ensures.1 (c.from.ensures ∙ ap pos c.start.ensures)
     ∙ ap (λ (z : ℤ). shr_z (z +ℤ pos (b * 2 ^ p + (2 ^ (p - 1) - 1))) (2 ^ p)) c.weighted.ensures.0

@@ -1,8 +1,0 @@
-use Prim.Native.Nat.{◌≤◌, ◌-◌}
-use Rattle.run_checks.proofs.leftover.try_plane.Given as goal
-
-abbrev pub invariant-loop-row : goal.invariant-loop-row
-invariant-loop-row l = l.row ≤ 4
-
-abbrev pub decreases-loop-row : goal.decreases-loop-row
-decreases-loop-row l = 4 - l.row

@@ -1,8 +1,0 @@
-use Prim.Native.Nat.{◌-◌, ◌≤◌}
-use Rattle.run_exports.proofs.run_fields.Given as goal
-
-abbrev pub invariant-loop-field : goal.invariant-loop-field
-invariant-loop-field l = l.field ≤ 7
-
-abbrev pub decreases-loop-field : goal.decreases-loop-field
-decreases-loop-field l = 7 - l.field
