@@ -25,12 +25,14 @@ fn put_number(n: usize) {
 pub fn line(name: &[u8], numbers: &[usize]) -> usize
     ensures { result ≡ length numbers.now }
 {
+    let mut printed = 0;
     put(name);
     for &n in numbers {
         put_number(n);
+        printed += 1;
     }
     put(b"\n");
-    numbers.len()
+    printed
 }
 
 // A number of 32 bits. `as`, since no `From` takes a u32 to a usize.
@@ -93,11 +95,13 @@ pub fn weights(w: Weights) -> usize
     let weights = [
         w.yr, w.yg, w.yb, w.cb_r, w.cb_g, w.cb_b, w.cr_r, w.cr_g, w.cr_b,
     ];
+    let mut printed = 0;
     for weight in weights {
         put(if weight < 0 { b" -" } else { b" " });
         io::print_decimal(STANDARD_OUTPUT, u64::from(weight.unsigned_abs()));
+        printed += 1;
     }
-    weights.len()
+    printed
 }
 
 // Settle's answer, all its numbers.

@@ -1,5 +1,5 @@
 // The channel sums of a block of at most four pixels.
-ghost use Rattle.std.specs.Prelude.{◌≡◌, ◌≤◌};
+ghost use Rattle.std.specs.Prelude.{◌≡◌, [], ◌∷◌, ◌≤◌};
 ghost use Rattle.fractions.specs.Sums.{sums_of, UpToFour};
 
 use crate::Sums;
@@ -20,4 +20,11 @@ pub fn sums_of<const N: usize>(block: [Pixel; N]) -> Sums
         sums.blue += u32::from(blue);
     }
     sums
+}
+
+// The largest block that a frame has, with a contract that a wrong body for it alone breaks.
+pub fn sums_of_four(p: Pixel, q: Pixel, u: Pixel, v: Pixel) -> Sums
+    ensures { (result ≡ sums_of (p ∷ q ∷ u ∷ v ∷ [])) × UpToFour result }
+{
+    sums_of([p, q, u, v])
 }

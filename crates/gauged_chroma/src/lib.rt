@@ -104,7 +104,7 @@ fn fours(ruler: Ruler, width: usize, top: &[u16], low: &[u16], chroma: &[u16]) -
         let q = pixels::row_pixel(channels, top, width, 2 * pair + 1);
         let u = pixels::row_pixel(channels, low, width, 2 * pair);
         let v = pixels::row_pixel(channels, low, width, 2 * pair + 1);
-        if !pair_near(ruler, block::sums_of([p, q, u, v]), chroma, pair) {
+        if !pair_near(ruler, block::sums_of_four(p, q, u, v), chroma, pair) {
             return pair;
         }
     }

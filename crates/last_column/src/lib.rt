@@ -57,7 +57,7 @@ fn column_mean(
     let p = pixels::row_pixel(channels, upper, width, x);
     if two {
         let u = pixels::row_pixel(channels, lower, width, x);
-        return means::mean([p, u]);
+        return means::mean_of_two(p, u);
     }
     p
 }

@@ -1,7 +1,7 @@
 // The mean of a block of pixels, channel by channel.
 #![tactic(auto)]
 
-ghost use Rattle.std.specs.Prelude.{◌≡◌, ◌*◌, ◌≤◌};
+ghost use Rattle.std.specs.Prelude.{◌≡◌, [], ◌∷◌, ◌*◌, ◌≤◌};
 ghost use Rattle.rules.specs.Blocks.{mean, averaged};
 
 use rules::Pixel;
@@ -33,4 +33,17 @@ pub fn mean<const N: usize>(block: [Pixel; N]) -> Pixel
         green: rounded(N, greens),
         blue: rounded(N, blues),
     }
+}
+
+// The blocks that a frame has, each with a contract that a wrong body for its size alone breaks.
+pub fn mean_of_two(p: Pixel, q: Pixel) -> Pixel
+    ensures { result ≡ averaged (p ∷ q ∷ []) }
+{
+    mean([p, q])
+}
+
+pub fn mean_of_four(p: Pixel, q: Pixel, u: Pixel, v: Pixel) -> Pixel
+    ensures { result ≡ averaged (p ∷ q ∷ u ∷ v ∷ []) }
+{
+    mean([p, q, u, v])
 }

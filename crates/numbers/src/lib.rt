@@ -114,16 +114,16 @@ impl TryFrom<SettingsNumbers> for Settings {
     ghost try_from_gives = { λ n meant. meant ≡ settings_of n };
 
     fn try_from(n: SettingsNumbers) -> Result<Settings, Unnamed> {
-        Ok(Settings {
-            depth: n.depth,
-            precision: n.precision,
-            matrix: matrix_of(n.matrix, n.kr, n.kb)?,
-            range: range_of(n.range)?,
-            subsampling: subsampling_of(n.subsampling)?,
-            order: order_of(n.order)?,
-            packing: packing_of(n.packing)?,
-            endianness: endianness_of(n.byte_order)?,
-            channels: channels_of(n.channels)?,
-        })
+        Ok(Settings::new(
+            n.depth,
+            n.precision,
+            matrix_of(n.matrix, n.kr, n.kb)?,
+            range_of(n.range)?,
+            subsampling_of(n.subsampling)?,
+            order_of(n.order)?,
+            packing_of(n.packing)?,
+            endianness_of(n.byte_order)?,
+            channels_of(n.channels)?,
+        ))
     }
 }

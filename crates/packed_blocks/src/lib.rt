@@ -42,7 +42,7 @@ pub fn block_loop(
         put_luma(s, w, joined, luma, left, p, q);
         let u = pixels::pixel_at(YuvSourceChannels::Rgb, lower, i);
         let v = pixels::pixel_at(YuvSourceChannels::Rgb, lower, i + n);
-        put_pair(s, w, joined, chroma, left, means::mean([p, q, u, v]));
+        put_pair(s, w, joined, chroma, left, means::mean_of_four(p, q, u, v));
     }
 }
 

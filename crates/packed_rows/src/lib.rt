@@ -66,6 +66,6 @@ pub fn paired_loop(
         let p = pixels::pixel_at(YuvSourceChannels::Rgb, rgba, i);
         let q = pixels::pixel_at(YuvSourceChannels::Rgb, rgba, i + n);
         put_luma(s, w, joined, luma, x, p, q);
-        put_pair(s, w, joined, chroma, x, means::mean([p, q]));
+        put_pair(s, w, joined, chroma, x, means::mean_of_two(p, q));
     }
 }

@@ -8,7 +8,7 @@ pub none : {m count : ℕ} {a b c e : List ℕ} → BoundsBelow m count a b c e 
 none = record { each = below_none _ }
 
 -- a greater bound
-greater : {m n count i : ℕ} {a b c e : List ℕ} → m ≤ n → BoundsBelow m count a b c e i → BoundsBelow n count a b c e i
+pub greater : {m n count i : ℕ} {a b c e : List ℕ} → m ≤ n → BoundsBelow m count a b c e i → BoundsBelow n count a b c e i
 greater l h =
     record {
       each = λ k b p.
@@ -16,11 +16,11 @@ greater l h =
           record { first = le_trans g.first l; second = le_trans g.second l; third = le_trans g.third l; fourth = le_trans g.fourth l };
     }
 
-three_greater : {m n at : ℕ} {part : List ℕ} → m ≤ n → BoundsThree m part at → BoundsThree n part at
+pub three_greater : {m n at : ℕ} {part : List ℕ} → m ≤ n → BoundsThree m part at → BoundsThree n part at
 three_greater l h = record { first = le_trans h.first l; second = le_trans h.second l; third = le_trans h.third l }
 
 -- one element more
-one_more : {m count i : ℕ} {a b c e : List ℕ} → BoundsBelow m count a b c e i → BoundsAt m a b c e i → BoundsBelow m count a b c e (i + 1)
+pub one_more : {m count i : ℕ} {a b c e : List ℕ} → BoundsBelow m count a b c e i → BoundsAt m a b c e i → BoundsBelow m count a b c e (i + 1)
 one_more h l = record { each = below_more _ _ h.each (λ p. l) }
 
 pub element_joined : (m count i : ℕ) (a b c e : List ℕ) → BoundsBelow m count a b c e i
@@ -41,7 +41,7 @@ module _ (m i : ℕ) (a b c e : List ℕ) (start : i % 4 ≡ 0) (p : BoundsThree
   third =
       subst (BoundsAt m a b c e) (omega arith) (record { first = p.third; second = q.third; third = r.third; fourth = s.third })
 
-  pixel_more : BoundsBelow m 4 a b c e i → BoundsBelow m 4 a b c e (i + 4)
+  pub pixel_more : BoundsBelow m 4 a b c e i → BoundsBelow m 4 a b c e (i + 4)
   pixel_more h =
       let all = (one_more (one_more (one_more h first) second) third).each in
       record { each = λ k l t. below_more _ (i + 1 + 1 + 1) all (λ alpha. absurd (omega (arith, alpha))) k (omega (arith, l)) t }

@@ -6,7 +6,7 @@ use crate::edges::accepted_at;
 use crate::trial::Trial;
 use cases::case::Case;
 use cases::planes::put;
-use cases::{case, text};
+use cases::{case, draw, text};
 use check_calls::spot::spot_at;
 
 // The share of one of n pixels in a sum: the first ones have what is left over.
@@ -28,7 +28,7 @@ fn run_block(settings: Case, pixels: usize, sums: [usize; 3]) {
         subsampling,
         ..settings
     };
-    let mut trial = Trial::new(case::laid(c, width, height, 0));
+    let mut trial = Trial::with_source(case::laid(c, width, height, 0), draw::room(0));
     for pixel in 0..4 {
         for (channel, sum) in sums.into_iter().enumerate() {
             put(

@@ -16,9 +16,14 @@ pub(crate) struct Trial {
 
 impl Trial {
     pub(crate) fn new(case: Case) -> Trial {
+        Trial::with_source(case, draw::source_of(case))
+    }
+
+    // A case's samples take most of the time that its buffers take, so they are drawn only where they are read.
+    pub(crate) fn with_source(case: Case, source: Room) -> Trial {
         Trial {
             case,
-            source: draw::source_of(case),
+            source,
             luma: draw::room(7),
             chroma: draw::room(7),
         }

@@ -4,7 +4,7 @@ use answer_numbers::{CheckedNumbers, ConvertedNumbers};
 use cases::case::Case;
 use cases::text::small;
 use cases::{draw, text};
-use convert_calls::rings::run_ring;
+use convert_calls::rings::convert_ring;
 
 fn put_converted(t: ConvertedNumbers) {
     let p = t.sample;
@@ -46,5 +46,8 @@ pub(crate) fn run(c: Case) {
     put_converted(convert_calls::convert(c, &source, &mut luma, &mut chroma));
     text::planes(c, &luma, &chroma);
     put_checked(check_calls::check(c, &source, &luma, &chroma));
-    run_ring(c, 1);
+    let mut ring_luma = draw::room(7);
+    let mut ring_chroma = draw::room(7);
+    text::ringed(convert_ring(c, 1, &source, &mut ring_luma, &mut ring_chroma));
+    text::planes(c, &ring_luma, &ring_chroma);
 }

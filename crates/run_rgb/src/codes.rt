@@ -4,7 +4,7 @@ ghost use Rattle.std.specs.Prelude.{◌<◌};
 use crate::patterns::{PATTERNS, put_pattern};
 use crate::trial::{Trial, put_case};
 use cases::case::Case;
-use cases::{case, text};
+use cases::{case, draw, text};
 
 const PRECISIONS: [u32; 3] = [1, 6, 13];
 
@@ -43,7 +43,7 @@ pub(crate) fn run() {
         put_case(c);
         for (n, pattern) in PATTERNS.into_iter().enumerate() {
             text::line(b"codes", &[n]);
-            let mut trial = Trial::new(c);
+            let mut trial = Trial::with_source(c, draw::room(0));
             put_pattern(&mut trial, pattern);
             trial.restore();
         }

@@ -5,7 +5,7 @@ use crate::stored::most_of;
 use crate::trial::{Trial, put_case};
 use cases::case::Case;
 use cases::draw::Room;
-use cases::{case, text};
+use cases::{case, draw, text};
 
 // A row of eight pixels, all elements of each pixel the same.
 fn put_greys(c: Case, source: &mut Room) {
@@ -44,7 +44,7 @@ pub(crate) fn run() {
         let c = row(t);
         put_case(c);
         text::line(b"greys", &[]);
-        let mut trial = Trial::new(c);
+        let mut trial = Trial::with_source(c, draw::room(0));
         put_greys(c, &mut trial.source);
         trial.convert();
         trial.restore();

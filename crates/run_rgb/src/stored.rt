@@ -16,7 +16,9 @@ pub(crate) fn scale_of(depth: u32) -> u16
 }
 
 // How far apart the words of two neighbouring codes are: 2^(16 − depth), or 1.
-fn step_of(packing: u32, depth: u32) -> u16 {
+fn step_of(packing: u32, depth: u32) -> u16
+    ensures { result ≤ 64 }
+{
     if packing == 1 {
         1
     } else {

@@ -21,9 +21,14 @@ pub(crate) struct Trial {
 
 impl Trial {
     pub(crate) fn new(case: Case) -> Trial {
+        Trial::with_source(case, draw::source_of(case))
+    }
+
+    // A case's samples take most of the time that its buffers take, so they are drawn only where they are read.
+    pub(crate) fn with_source(case: Case, source: Room) -> Trial {
         Trial {
             case,
-            source: draw::source_of(case),
+            source,
             luma: draw::room(7),
             chroma: draw::room(7),
         }
@@ -79,5 +84,5 @@ pub(crate) fn run_converted(c: Case) {
 pub(crate) fn run_unwritten(c: Case) {
     put_case(c);
     text::line(b"unwritten", &[]);
-    Trial::new(c).restore();
+    Trial::with_source(c, draw::room(0)).restore();
 }

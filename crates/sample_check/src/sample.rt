@@ -66,7 +66,7 @@ fn sums(channels: YuvSourceChannels, width: usize, top: &[u16], low: &[u16], t: 
             let q = pixels::row_pixel(channels, top, width, t.left + 1);
             let u = pixels::row_pixel(channels, low, width, t.left);
             let v = pixels::row_pixel(channels, low, width, t.left + 1);
-            block::sums_of([p, q, u, v])
+            block::sums_of_four(p, q, u, v)
         }
     }
 }

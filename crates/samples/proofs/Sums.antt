@@ -12,7 +12,7 @@ use Rattle.integer_laws.proofs.Machine.{plus, plus_fits}
 
 -- ---- what is added before the shift
 module _ (bias p : ℕ) (h : bias ≤ 65535) (l : 1 ≤ p) (k : p ≤ 13) where
-  start_le : bias * 2 ^ p + (2 ^ (p - 1) - 1) ≤ 4294967295
+  pub start_le : bias * 2 ^ p + (2 ^ (p - 1) - 1) ≤ 4294967295
   start_le =
       let b : bias < 2 ^ 16 = omega arith in
       let g : 16 + p ≤ 29 = omega arith in

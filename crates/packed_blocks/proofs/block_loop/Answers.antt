@@ -13,7 +13,7 @@ use Rattle.frames.specs.Rows.{row_pixel}
 use Rattle.packed_store.proofs.Readings.{two_rows}
 use Rattle.packed_store.proofs.Turns.{TwoColumns, TwoPixels, columns_at, pixels, luma_turn, pair_turn, wide_enough}
 use Rattle.packed_blocks.proofs.block_loop.Goals as goal
-use Rattle.packed_blocks.proofs.block_loop.Goals.{After-mean, After-pixel_at-q, After-pixel_at-v, In-loop-block}
+use Rattle.packed_blocks.proofs.block_loop.Goals.{After-mean_of_four, After-pixel_at-q, After-pixel_at-v, In-loop-block}
 
 -- the two columns of this turn, and their pixels in both rows
 spot : (c : In-loop-block) → TwoColumns c.args.width c.get_channels_count-n.result (2 * c.loop-block.block) (2 * c.loop-block.block * c.get_channels_count-n.result)
@@ -25,11 +25,11 @@ read c = pixels c.args.s c.requires.convertible.0 c.get_channels_count-n.ensures
 read_lower : (c : After-pixel_at-v) → TwoPixels c.args.s c.args.lower.now (2 * c.loop-block.block) c.pixel_at-u.result c.pixel_at-v.result
 read_lower c = pixels c.args.s c.requires.convertible.1 c.get_channels_count-n.ensures (2 * c.loop-block.block) (2 * c.loop-block.block * c.get_channels_count-n.result) refl (spot (goal.at.After-pixel_at-v c).In-loop-block) c.pixel_at-u.ensures c.pixel_at-v.ensures
 
-low_mean : (c : After-mean) → Low (most c.args.s.depth) c.mean.result
+low_mean : (c : After-mean_of_four) → Low (most c.args.s.depth) c.mean_of_four.result
 low_mean c =
-    let g = read (goal.at.After-mean c).After-pixel_at-q in
-    let h = read_lower (goal.at.After-mean c).After-pixel_at-v in
-    subst⁻¹ (Low (most c.args.s.depth)) c.mean.ensures (averaged_low (four g.first_low_lem g.second_low_lem h.first_low_lem h.second_low_lem))
+    let g = read (goal.at.After-mean_of_four c).After-pixel_at-q in
+    let h = read_lower (goal.at.After-mean_of_four c).After-pixel_at-v in
+    subst⁻¹ (Low (most c.args.s.depth)) c.mean_of_four.ensures (averaged_low (four g.first_low_lem g.second_low_lem h.first_low_lem h.second_low_lem))
 
 chroma_room : (c : In-loop-block) → 2 * c.loop-block.block + 2 ≤ length c.args.chroma.now
 chroma_room c =
@@ -37,7 +37,7 @@ chroma_room c =
 
 pub put_pair-requires-clause-low : goal.put_pair-requires-clause-low
 put_pair-requires-clause-low c =
-    low_mean (goal.at.put_pair-requires-clause-low c).After-mean
+    low_mean (goal.at.put_pair-requires-clause-low c).After-mean_of_four
 
 pub loop-block-preserved : goal.loop-block-preserved
 loop-block-preserved c =
@@ -52,7 +52,7 @@ loop-block-preserved c =
     let even : x % 2 ≡ 0 = omega arith in
     let next : x + 2 ≡ 2 * (c.loop-block.block + 1) = omega arith in
     let room : x + 2 ≤ length v.luma.now = omega (arith, place.inside, c.requires.row_lengths.luma_long) in
-    let mean = two_rows v.s v.w v.width t u x c.requires.usable.1 even (omega (arith, place.inside)) _ _ _ _ c.mean.ensures g.first_is g.second_is h.first_is h.second_is in (
+    let mean = two_rows v.s v.w v.width t u x c.requires.usable.1 even (omega (arith, place.inside)) _ _ _ _ c.mean_of_four.ensures g.first_is g.second_is h.first_is h.second_is in (
       begun_at next (luma_turn v.s v.w v.luma.now _ g room i.0 c.put_luma.ensures),
       begun_at next (pair_turn v.s v.w _ v.width true t u x (x / 2) v.chroma.now _ even refl (chroma_room (goal.at.loop-block-preserved c).In-loop-block) mean i.1 c.put_pair.ensures),
     )

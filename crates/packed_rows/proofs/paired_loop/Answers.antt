@@ -13,7 +13,7 @@ use Rattle.frames.specs.Rows.{row_pixel}
 use Rattle.packed_store.proofs.Readings.{two_columns}
 use Rattle.packed_store.proofs.Turns.{TwoColumns, TwoPixels, columns_at, pixels, luma_turn, pair_turn, wide_enough}
 use Rattle.packed_rows.proofs.paired_loop.Goals as goal
-use Rattle.packed_rows.proofs.paired_loop.Goals.{After-mean, After-pixel_at-q, In-loop-pair}
+use Rattle.packed_rows.proofs.paired_loop.Goals.{After-mean_of_two, After-pixel_at-q, In-loop-pair}
 
 -- the two columns of this turn, and their pixels
 spot : (c : In-loop-pair) → TwoColumns c.args.width c.get_channels_count-n.result (2 * c.loop-pair.pair) (2 * c.loop-pair.pair * c.get_channels_count-n.result)
@@ -22,10 +22,10 @@ spot c = columns_at c.args.s c.requires.convertible c.get_channels_count-n.ensur
 read : (c : After-pixel_at-q) → TwoPixels c.args.s c.args.rgba.now (2 * c.loop-pair.pair) c.pixel_at-p.result c.pixel_at-q.result
 read c = pixels c.args.s c.requires.convertible c.get_channels_count-n.ensures (2 * c.loop-pair.pair) (2 * c.loop-pair.pair * c.get_channels_count-n.result) refl (spot (goal.at.After-pixel_at-q c).In-loop-pair) c.pixel_at-p.ensures c.pixel_at-q.ensures
 
-low_mean : (c : After-mean) → Low (most c.args.s.depth) c.mean.result
+low_mean : (c : After-mean_of_two) → Low (most c.args.s.depth) c.mean_of_two.result
 low_mean c =
-    let g = read (goal.at.After-mean c).After-pixel_at-q in
-    subst⁻¹ (Low (most c.args.s.depth)) c.mean.ensures (averaged_low (two g.first_low_lem g.second_low_lem))
+    let g = read (goal.at.After-mean_of_two c).After-pixel_at-q in
+    subst⁻¹ (Low (most c.args.s.depth)) c.mean_of_two.ensures (averaged_low (two g.first_low_lem g.second_low_lem))
 
 chroma_room : (c : In-loop-pair) → 2 * c.loop-pair.pair + 2 ≤ length c.args.chroma.now
 chroma_room c =
@@ -33,7 +33,7 @@ chroma_room c =
 
 pub put_pair-requires-clause-low : goal.put_pair-requires-clause-low
 put_pair-requires-clause-low c =
-    low_mean (goal.at.put_pair-requires-clause-low c).After-mean
+    low_mean (goal.at.put_pair-requires-clause-low c).After-mean_of_two
 
 pub loop-pair-preserved : goal.loop-pair-preserved
 loop-pair-preserved c =
@@ -46,7 +46,7 @@ loop-pair-preserved c =
     let even : x % 2 ≡ 0 = omega arith in
     let next : x + 2 ≡ 2 * (c.loop-pair.pair + 1) = omega arith in
     let room : x + 2 ≤ length v.luma.now = omega (arith, place.inside, c.requires.row_lengths.luma_long) in
-    let mean = two_columns v.s v.w v.width t t x c.requires.usable.1 even (omega (arith, place.inside)) _ _ c.mean.ensures g.first_is g.second_is in (
+    let mean = two_columns v.s v.w v.width t t x c.requires.usable.1 even (omega (arith, place.inside)) _ _ c.mean_of_two.ensures g.first_is g.second_is in (
       begun_at next (luma_turn v.s v.w v.luma.now _ g room i.0 c.put_luma.ensures),
       begun_at next (pair_turn v.s v.w _ v.width false t t x (x / 2) v.chroma.now _ even refl (chroma_room (goal.at.loop-pair-preserved c).In-loop-pair) mean i.1 c.put_pair.ensures),
     )

@@ -104,7 +104,8 @@ returns c =
     let e4 = up_to_last 1 n.packing (packing_of n.packing) c.packing_of.ensures c.in_ok-packing_of.was in
     let e5 = up_to_last 1 n.byte_order (endianness_of n.byte_order) c.endianness_of.ensures c.in_ok-endianness_of.was in
     let e6 = up_to_last 3 n.channels (channels_of n.channels) c.channels_of.ensures c.in_ok-channels_of.was in
-    rw (e0.0, e1.0, e2.0, e3.0, e4.0, e5.0, e6.0)
+    (λ i. Ok (c.new.ensures i))
+    ∙ rw (e0.0, e1.0, e2.0, e3.0, e4.0, e5.0, e6.0)
     (sym (λ i. Ok record {
       depth = n.depth;
       precision = n.precision;
